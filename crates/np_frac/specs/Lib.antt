@@ -1,0 +1,7 @@
+pub mod Coprime
+pub mod Signs
+pub mod Ratio
+pub mod Lcm
+pub mod Lowest
+pub mod Exact
+pub mod Order

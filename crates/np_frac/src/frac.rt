@@ -1,0 +1,238 @@
+ghost use Rattle.std.specs.Prelude.{◌≡◌, ◌≢◌, ◌*◌, ◌*ℤ◌, ◌≤ℤ◌, ◌↔◌, ◌⊎◌, IsNone, IfSome, IsTrue, pos, neg_ℤ, ◌<◌, ◌^◌, unsigned_abs};
+ghost use Rattle.np_frac.specs.Ratio.{IsLowest, whole, negated, inverse, is_below, ◌+ᵣ◌, ◌*ᵣ◌};
+ghost use Rattle.np_frac.specs.Lowest.{Fit, IsFound, IsSumFound};
+ghost use Rattle.np_frac.specs.Order.{ratio_cmp};
+
+use crate::divisor::{gcd, reduced};
+use crate::wide::{compare_products, lower_within, product_within, sum_within};
+use std::cmp::Ordering;
+use std::marker::Model;
+
+/// A fraction in lowest terms.
+#[derive(Clone, Copy, PartialEq, Eq)]
+pub struct Frac {
+    num: i128,
+    den: u128,
+    ghost lowest: { IsLowest num den },
+}
+
+impl Model for Frac {
+    ghost use Rattle.np_frac.specs.Ratio.{Ratio, ratio_code};
+    ghost use Rattle.np_frac.specs.Lowest.{Fit};
+
+    ghost Value = { Ratio };
+
+    ghost coded = { ratio_code };
+
+    ghost view = { λ f. record { num = f.num; den = f.den; lowest = f.lowest } };
+
+    ghost invariant = { λ f. Fit f.num f.den };
+
+    ghost inverse = { λ r. record { num = r.num; den = r.den; lowest = r.lowest } };
+}
+
+/// An operation on two fractions.
+#[derive(Clone, Copy, PartialEq, Eq)]
+pub enum Op {
+    Plus,
+    Minus,
+    Times,
+    Over,
+}
+
+/// An operation whose exact result does not fit, with its operands.
+#[derive(Clone, Copy, PartialEq, Eq)]
+pub struct Past {
+    pub op: Op,
+    pub left: Frac,
+    pub right: Frac,
+}
+
+impl Frac {
+    ghost use Rattle.np_frac.specs.Exact.{plus_of, minus_of, times_of, over_of};
+
+    pub fn new(num: i128, den: i128) -> Option<Frac>
+        ensures none { IsNone result ↔ ((den ≤ℤ pos 0) ⊎ (num ≡ i128.MIN)) }
+        ensures value { IfSome result (λ f. f.num *ℤ den ≡ num *ℤ pos f.den) }
+    {
+        if den <= 0 || num == i128::MIN {
+            return None;
+        }
+        Some(Frac::from_parts(num, den as u128))
+    }
+
+    /// The fraction of these parts, which need not be in lowest terms.
+    pub(crate) fn from_parts(num: i128, den: u128) -> Frac
+        requires some { 0 < den }
+        requires size { unsigned_abs num < 2 ^ 127 }
+        requires fits { den < 2 ^ 127 }
+        ensures { result.num *ℤ pos den ≡ num *ℤ pos result.den }
+    {
+        let (num, den) = reduced(num, den);
+        Frac { num, den }
+    }
+
+    pub fn whole(value: i64) -> Frac
+        ensures { result ≡ whole value }
+    {
+        Frac {
+            num: value as i128,
+            den: 1,
+        }
+    }
+
+    pub fn num(self) -> i128
+        ensures { result ≡ self.num }
+    {
+        self.num
+    }
+
+    pub fn den(self) -> i128
+        ensures { result ≡ pos self.den }
+    {
+        self.den as i128
+    }
+
+    pub fn negated(self) -> Frac
+        ensures { result ≡ negated self }
+    {
+        Frac {
+            num: -self.num,
+            den: self.den,
+        }
+    }
+
+    fn product_of(self, other: Frac) -> Option<Frac>
+        ensures { IsFound result (self *ᵣ other) }
+    {
+        let (left, lower_right) = reduced(self.num, other.den);
+        let (right, lower_left) = reduced(other.num, self.den);
+        let num = product_within(left, right)?;
+        let den = lower_within(lower_left, lower_right)?;
+        Some(Frac { num, den })
+    }
+
+    fn sum_of(self, other: Frac) -> Option<Frac>
+        ensures { IsSumFound result self other }
+    {
+        let shared = gcd(self.den, other.den);
+        let (left_by, right_by) = (other.den / shared, self.den / shared);
+        let common = lower_within(self.den, left_by)?;
+        let left = product_within(self.num, left_by as i128)?;
+        let right = product_within(other.num, right_by as i128)?;
+        let sum = sum_within(left, right)?;
+        let (num, den) = reduced(sum, common);
+        Some(Frac { num, den })
+    }
+
+    pub fn times(self, other: Frac) -> Result<Frac, Past>
+        ensures { result ≡ times_of self other }
+    {
+        self.product_of(other).ok_or(Past {
+            op: Op::Times,
+            left: self,
+            right: other,
+        })
+    }
+
+    pub fn plus(self, other: Frac) -> Result<Frac, Past>
+        ensures { result ≡ plus_of self other }
+    {
+        self.sum_of(other).ok_or(Past {
+            op: Op::Plus,
+            left: self,
+            right: other,
+        })
+    }
+
+    pub fn minus(self, other: Frac) -> Result<Frac, Past>
+        ensures { result ≡ minus_of self other }
+    {
+        self.sum_of(other.negated()).ok_or(Past {
+            op: Op::Minus,
+            left: self,
+            right: other,
+        })
+    }
+
+    /// One over the fraction.
+    fn inverted(self) -> Frac
+        requires { self.num ≢ pos 0 }
+        ensures { result.num *ℤ self.num ≡ pos (result.den * self.den) }
+    {
+        let num = self.den as i128;
+        let den = self.num.unsigned_abs();
+        if self.num < 0 {
+            return Frac { num: -num, den };
+        }
+        Frac { num, den }
+    }
+
+    pub fn over(self, other: Frac) -> Result<Frac, Past>
+        requires { other.num ≢ pos 0 }
+        ensures { result ≡ over_of self other }
+    {
+        self.product_of(other.inverted()).ok_or(Past {
+            op: Op::Over,
+            left: self,
+            right: other,
+        })
+    }
+
+    /// Whether it is below the other.
+    pub fn is_below(self, other: Frac) -> bool
+        ensures { result ≡ is_below self other }
+    {
+        self < other
+    }
+
+    /// Whether it is the other.
+    pub fn is_same(self, other: Frac) -> bool
+        ensures { IsTrue result ↔ (self ≡ other) }
+    {
+        self == other
+    }
+
+    pub fn compare(self, other: Frac) -> Ordering
+        ensures { result ≡ ratio_cmp self other }
+    {
+        let (left, right) = (self.num.unsigned_abs(), other.num.unsigned_abs());
+        match (self.num < 0, other.num < 0) {
+            (false, false) => compare_products(left, other.den, right, self.den),
+            (false, true) => Ordering::Greater,
+            (true, false) => Ordering::Less,
+            (true, true) => compare_products(right, self.den, left, other.den),
+        }
+    }
+}
+
+impl Ord for Frac {
+    ghost use Rattle.std.specs.Prelude.{refl};
+    ghost use Rattle.np_frac.specs.Order.{ratio_cmp, ratio_cmp_total, ratio_matches};
+
+    ghost cmp = { ratio_cmp };
+
+    ghost total = { ratio_cmp_total };
+
+    ghost matches_partial_cmp = { λ x y. refl };
+
+    ghost matches_eq = { ratio_matches };
+
+    fn cmp(&self, other: &Frac) -> Ordering {
+        self.compare(*other)
+    }
+}
+
+impl PartialOrd for Frac {
+    ghost use Rattle.std.specs.Cmp.{po};
+    ghost use Rattle.std.specs.Ordering.{as_partial_cmp};
+    ghost use Rattle.np_frac.specs.Order.{ratio_cmp, ratio_cmp_total, ratio_matches};
+
+    ghost partial_cmp = { as_partial_cmp ratio_cmp };
+
+    ghost laws = { po ratio_cmp_total ratio_matches };
+
+    fn partial_cmp(&self, other: &Frac) -> Option<Ordering> {
+        Some(self.compare(*other))
+    }
+}

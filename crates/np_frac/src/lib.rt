@@ -1,0 +1,10 @@
+//! Exact fractions within 128 bits.
+#![tactic(auto)]
+
+mod divisor;
+mod frac;
+mod memory;
+mod wide;
+
+pub use frac::{Frac, Op, Past};
+pub use memory::Memory;
