@@ -14,6 +14,10 @@ use Rattle.np_frac.specs.Signs.{cross-below}
 abbrev pub ratio_cmp : Ratio → Ratio → Ordering
 ratio_cmp a b = int_cmp (a.num *ℤ pos b.den) (b.num *ℤ pos a.den)
 
+-- the test of equality
+abbrev pub ratio_eq : Ratio → Ratio → Bool
+ratio_eq a b = int_eq a.num b.num && (a.den == b.den)
+
 -- one ratio is below another
 pub IsBelow : Ratio → Ratio → Type 0
 IsBelow a b = (a.num *ℤ pos b.den) <ℤ (b.num *ℤ pos a.den)

@@ -1,7 +1,7 @@
 ghost use Rattle.std.specs.Prelude.{◌≡◌, ◌≢◌, ◌*◌, ◌*ℤ◌, ◌≤ℤ◌, ◌↔◌, ◌⊎◌, IsNone, IfSome, IsTrue, pos, neg_ℤ, ◌<◌, ◌^◌, unsigned_abs};
 ghost use Rattle.np_frac.specs.Ratio.{IsLowest, whole, negated, inverse, is_below, ◌+ᵣ◌, ◌*ᵣ◌};
 ghost use Rattle.np_frac.specs.Lowest.{Fit, IsFound, IsSumFound};
-ghost use Rattle.np_frac.specs.Order.{ratio_cmp};
+ghost use Rattle.np_frac.specs.Order.{ratio_cmp, ratio_eq};
 
 use crate::divisor::{gcd, reduced};
 use crate::wide::{compare_products, lower_within, product_within, sum_within};
@@ -9,7 +9,7 @@ use std::cmp::Ordering;
 use std::marker::Model;
 
 /// A fraction in lowest terms.
-#[derive(Clone, Copy, PartialEq, Eq)]
+#[derive(Clone, Copy, Debug, PartialEq, Eq)]
 pub struct Frac {
     num: i128,
     den: u128,
@@ -32,7 +32,7 @@ impl Model for Frac {
 }
 
 /// An operation on two fractions.
-#[derive(Clone, Copy, PartialEq, Eq)]
+#[derive(Clone, Copy, Debug, PartialEq, Eq)]
 pub enum Op {
     Plus,
     Minus,
@@ -41,7 +41,7 @@ pub enum Op {
 }
 
 /// An operation whose exact result does not fit, with its operands.
-#[derive(Clone, Copy, PartialEq, Eq)]
+#[derive(Clone, Copy, Debug, PartialEq, Eq)]
 pub struct Past {
     pub op: Op,
     pub left: Frac,
@@ -188,7 +188,8 @@ impl Frac {
 
     /// Whether it is the other.
     pub fn is_same(self, other: Frac) -> bool
-        ensures { IsTrue result ↔ (self ≡ other) }
+        ensures test { result ≡ ratio_eq self other }
+        ensures same { IsTrue result ↔ (self ≡ other) }
     {
         self == other
     }

@@ -1,0 +1,69 @@
+-- Plans of a scheme: one amount for each staged arc. (This project's own.)
+use Rattle.std.specs.Prelude.{ℕ, ◌+◌, ◌-◌, ◌*◌, ◌==◌, ◌&&◌, if◌then◌else◌, Bool, true, false, Option, Some, None, List, length}
+use Rattle.std.specs.List.{flat_map, filter_map, range_with_len, enumerate_from}
+use Rattle.np_frac.specs.Ratio.{Ratio}
+use Rattle.np_model.specs.declared.arc.Ends.{Ends}
+use Rattle.np_model.specs.declared.arc.Ends.TheVariants as ends
+use Rattle.np_model.specs.declared.scheme.FlowKind.{FlowKind}
+use Rattle.np_model.specs.declared.scheme.FlowKind.TheVariants.{Link, Hold, Drain, Feed}
+use Rattle.np_model.specs.declared.scheme.Flow.{Flow}
+use Rattle.np_model.specs.declared.scheme.Scheme.{Scheme}
+use Rattle.np_model.specs.Stages.{Stage, StagesFeasible, stages_cost, StagesLeast, StagesShow, StagesImpossible, stages_gap, StagesRay}
+
+-- with k nodes, node i in a period is the expanded node (period - 1) * k + i
+abbrev pub node_in : ℕ → ℕ → ℕ → ℕ
+node_in k period i = (period - 1) * k + i
+
+-- the ends of a flow in a period; a hold leads into the next one
+abbrev pub ends_in : ℕ → ℕ → FlowKind → Ends
+ends_in k period (Link from to gain) = ends.Link (node_in k period from) (node_in k period to) gain
+ends_in k period (Hold node gain) = ends.Link (node_in k period node) (node_in k (period + 1) node) gain
+ends_in k period (Drain node) = ends.Drain (node_in k period node)
+ends_in k period (Feed node) = ends.Feed (node_in k period node)
+
+abbrev pub is_hold : FlowKind → Bool
+is_hold (Link from to gain) = false
+is_hold (Hold node gain) = true
+is_hold (Drain node) = false
+is_hold (Feed node) = false
+
+-- a flow of this number in a period
+abbrev pub stage_in : ℕ → ℕ → ℕ × Flow → Stage
+stage_in k period (number, flow) =
+    record { flow = number; period = period; ends = ends_in k period flow.kind; lower = flow.lower; upper = flow.upper; cost = flow.cost; bands = flow.bands }
+
+-- its staged arc; a hold has none in the last period
+abbrev pub stage_of : ℕ → ℕ → ℕ → ℕ × Flow → Option Stage
+stage_of periods k period (number, flow) = if is_hold flow.kind && (period == periods) then None else Some (stage_in k period (number, flow))
+
+-- the staged arcs: for each period from 1 on and each flow in order, its staged arc
+abbrev pub staged : Scheme → List Stage
+staged scheme =
+    flat_map (λ period. filter_map (stage_of scheme.periods (length scheme.nodes) period) (enumerate_from 0 scheme.flows))
+    (range_with_len 1 scheme.periods)
+
+-- ---- plans, and what shows what of them
+
+abbrev pub IsFeasiblePlan : Scheme → List Ratio → Type 0
+IsFeasiblePlan scheme x = StagesFeasible scheme.supply (staged scheme) x
+
+abbrev pub scheme_cost : Scheme → List Ratio → Ratio
+scheme_cost scheme x = stages_cost (staged scheme) x
+
+-- a least-cost plan: no feasible list of ratios, of whatever size, costs less
+abbrev pub IsLeastPlan : Scheme → List Ratio → Type 0
+IsLeastPlan scheme x = StagesLeast scheme.supply (staged scheme) x
+
+abbrev pub PricesShow : Scheme → List Ratio → List Ratio → Type 0
+PricesShow scheme p x = StagesShow scheme.supply (staged scheme) p x
+
+-- prices certify that there is no plan
+abbrev pub PricesForbid : Scheme → List Ratio → Type 0
+PricesForbid scheme p = StagesImpossible scheme.supply (staged scheme) p
+
+abbrev pub price_gap : Scheme → List Ratio → Ratio
+price_gap scheme p = stages_gap scheme.supply (staged scheme) p
+
+-- a plan and a ray certify that every cost has a cheaper plan
+abbrev pub FallsAlong : Scheme → List Ratio → List Ratio → Type 0
+FallsAlong scheme x d = StagesRay scheme.supply (staged scheme) x d
