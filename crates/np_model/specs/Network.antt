@@ -1,7 +1,7 @@
 -- Networks with gains: their plans, and what shows that a plan is least, that there is none, or that none is least.
 -- Flow balance, reduced costs and their optimality conditions are those of Ahuja, Magnanti and Orlin, Network Flows,
 -- chapter 15; arcs with one end, and the certificates of the other two cases in this form, are this project's own.
-use Rattle.std.specs.Prelude.{◌≡◌, ℕ, ◌<◌, ◌==◌, if◌then◌else◌, ⊤, length, slice_index_or, List}
+use Rattle.std.specs.Prelude.{◌≡◌, ◌≢◌, ℕ, ◌<◌, ◌==◌, if◌then◌else◌, ⊤, length, slice_index_or, List}
 use Rattle.std.specs.List.{All, zip, enumerate_from}
 use Rattle.np_frac.specs.Ratio.{Ratio, zero_ratio, one_ratio, negated, ◌≤ᵣ◌, ◌<ᵣ◌, ◌-ᵣ◌, ◌+ᵣ◌, ◌*ᵣ◌, total, is_below}
 use Rattle.np_model.specs.declared.arc.Ends.{Ends}
@@ -61,6 +61,12 @@ pull p ends = total (λ (v, potential). coefficient ends v *ᵣ potential) (enum
 -- the reduced cost of an arc with these ends and this cost
 abbrev pub reduced : List Ratio → Ends → Ratio → Ratio
 reduced p ends c = c -ᵣ pull p ends
+
+-- the reduced cost of an arc has a term for each of its ends, and no other
+pub record ReducedByEnds : Type 0 where
+  pub link : (p : List Ratio) (from to : ℕ) (gain c : Ratio) → from ≢ to → from < length p → to < length p → reduced p (Link from to gain) c ≡ (c -ᵣ at p from) +ᵣ gain *ᵣ at p to
+  pub drain : (p : List Ratio) (v : ℕ) (c : Ratio) → v < length p → reduced p (Drain v) c ≡ c -ᵣ at p v
+  pub feed : (p : List Ratio) (v : ℕ) (c : Ratio) → v < length p → reduced p (Feed v) c ≡ c +ᵣ at p v
 
 abbrev pub IsFull : Ratio → Upper → Type 0
 IsFull amount (Finite u) = amount ≡ u

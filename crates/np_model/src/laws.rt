@@ -1,30 +1,32 @@
 //! The laws of generalised minimum-cost flow, as the clauses of functions that do nothing.
 
-ghost use Rattle.np_model.specs.Network.{WeakDuality, NoPlan, Falls};
+ghost use Rattle.np_model.specs.Network.{ReducedByEnds, WeakDuality, NoPlan, Falls};
 ghost use Rattle.np_model.specs.Stages.{StagesDuality};
+
+/// The reduced cost of a link from i to j with cost c and gain g is `c - p(i) + g * p(j)`, that of a drain at v `c - p(v)`, and
+/// that of a feed at v `c + p(v)`.
+pub fn reduced_costs()
+    ensures { ReducedByEnds }
+{}
 
 /// Weak duality: where a list of ratios is feasible and potentials show it optimal by complementary slackness, no
 /// feasible list of ratios, of whatever size, costs less.
 pub fn weak_duality()
     ensures { WeakDuality }
-{
-}
+{}
 
 /// Where potentials have a gap above 0, no list of ratios is feasible.
 pub fn no_plan()
     ensures { NoPlan }
-{
-}
+{}
 
 /// Along a ray of unboundedness every cost is undercut by a feasible plan.
 pub fn falls()
     ensures { Falls }
-{
-}
+{}
 
 /// Weak duality for convex costs: where amounts are feasible and potentials show them optimal segment by segment, no
 /// feasible list of ratios costs less.
 pub fn convex_duality()
     ensures { StagesDuality }
-{
-}
+{}

@@ -4,11 +4,10 @@
 
 mod arc;
 mod gate;
+pub mod laws;
 mod lists;
 mod plan;
 mod scheme;
-
-pub mod laws;
 
 pub use arc::{Ends, NetArc, Upper};
 pub use gate::{Gate, OpenGate, Spot};

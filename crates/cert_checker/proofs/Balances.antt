@@ -1,0 +1,95 @@
+-- Running balances of all nodes, as one arc after the other is added.
+use Rattle.std.specs.Prelude.{◌≡◌, ◌≢◌, ℕ, ◌+◌, ◌<◌, not, suc, Result, Ok, Err, List, [], ◌∷◌, length}
+use Rattle.std.specs.List.{zip, enumerate_from}
+use Rattle.std.proofs.lemmas.List.FromFn.{get_or-enumerate_from, length-enumerate_from}
+use Rattle.std.proofs.lemmas.Slice.Zip.{length-zip, get_or-zip}
+use Rattle.std.proofs.Common.{refl, sym, ◌∙◌, ap, ap₂, inl, inr, arith, get_or, set}
+use Rattle.std.proofs.lemmas.Bool.{cases_eq}
+use Rattle.std.proofs.lemmas.Bool.Decides.{nat_tests}
+use Rattle.std.proofs.lemmas.Grind.{common_steps}
+use Rattle.np_frac.specs.Ratio.{Ratio}
+use Rattle.np_frac.specs.Exact.{plus_of, minus_of, times_of}
+use Rattle.np_frac.specs.declared.frac.Past.{Past}
+use Rattle.np_frac.specs.Order.{ratio_eq}
+use Rattle.np_model.specs.declared.arc.Ends.TheVariants.{Link}
+use Rattle.np_model.specs.declared.plan.CheckRow.TheVariants.{C1}
+use Rattle.np_model.specs.Stages.{Stage}
+use Rattle.cert_checker.specs.Sums.{sum_clause}
+use Rattle.cert_checker.specs.Walk.{◌▷◌, balance_step, balance_of, balance_clause, first_refusal, tested, refused_if, reject_node}
+
+abbrev pub Running : Type 0
+Running = Result Ratio Past
+
+-- an element that is there, whatever stands for one that is not
+pub element_is : {A : Type 0} (xs : List A) (i : ℕ) (r d : A) → i < length xs → r ≡ get_or xs i r → get_or xs i d ≡ r
+element_is xs i r d h e = grind (arith, common_steps, e)
+
+bind_same : (r : Running) (f g : Ratio → Running) → ((y : Ratio) → f y ≡ g y) → r ▷ f ≡ r ▷ g
+bind_same (Ok y) f g h = h y
+bind_same (Err p) f g h = refl
+
+bind_ok : (r : Running) (f : Ratio → Running) → ((y : Ratio) → f y ≡ Ok y) → r ▷ f ≡ r
+bind_ok (Ok y) f h = h y
+bind_ok (Err p) f h = refl
+
+at_tail : (v from to : ℕ) (gain x y : Ratio) → v ≡ from → balance_step v (Link from to gain) x y ≡ plus_of y x
+at_tail v from to gain x y e = grind (arith, nat_tests)
+
+at_head : (v from to : ℕ) (gain x y : Ratio) → v ≢ from → v ≡ to → balance_step v (Link from to gain) x y ≡ times_of gain x ▷ (λ gained. minus_of y gained)
+at_head v from to gain x y d e = grind (arith, nat_tests)
+
+apart : (v from to : ℕ) (gain x y : Ratio) → v ≢ from → v ≢ to → balance_step v (Link from to gain) x y ≡ Ok y
+apart v from to gain x y d e = grind (arith, nat_tests)
+
+-- a link changes the running balances of its two ends alone
+pub link_step : (xs : List Running) (from to v : ℕ) (gain x : Ratio) (r s a b d : Running) → from < length xs → to < length xs → from ≢ to
+    → r ≡ get_or xs from r → a ≡ r ▷ (λ sum. plus_of sum x)
+    → s ≡ get_or (set xs from a) to s → b ≡ s ▷ (λ sum. times_of gain x ▷ λ gained. minus_of sum gained)
+    → v < length xs → get_or (set (set xs from a) to b) v d ≡ get_or xs v d ▷ balance_step v (Link from to gain) x
+link_step xs from to v gain x r s a b d at_from at_to differ r_is a_is s_is b_is below =
+    elim (cases_eq v from) [
+      | inl e ↦
+          let elsewhere : v ≢ to = λ f. differ (sym e ∙ f) in
+          let read : get_or xs v d ≡ r = rw e (element_is xs from r d at_from r_is) in
+          let written : get_or (set (set xs from a) to b) v d ≡ a = grind (arith, common_steps) in
+          written ∙ a_is ∙ sym (rw read (bind_same r (balance_step v (Link from to gain) x) (λ sum. plus_of sum x) (λ y. at_tail v from to gain x y e)))
+      | inr n ↦ elim (cases_eq v to) [
+        | inl e ↦
+            let long : to < length (set xs from a) = grind (arith, common_steps) in
+            let before : get_or (set xs from a) v d ≡ get_or xs v d = grind (arith, common_steps) in
+            let read : get_or xs v d ≡ s = sym before ∙ rw e (element_is (set xs from a) to s d long s_is) in
+            let written : get_or (set (set xs from a) to b) v d ≡ b = grind (arith, common_steps) in
+            written ∙ b_is
+            ∙ sym (rw read (bind_same s (balance_step v (Link from to gain) x) (λ sum. times_of gain x ▷ λ gained. minus_of sum gained) (λ y. at_head v from to gain x y n e)))
+        | inr m ↦
+            let kept : get_or (set (set xs from a) to b) v d ≡ get_or xs v d = grind (arith, common_steps) in
+            kept ∙ sym (bind_ok (get_or xs v d) (balance_step v (Link from to gain) x) (λ y. apart v from to gain x y n m))
+      ]
+    ]
+
+-- ---- the sums beside the supplies
+
+pub length-sums : (supply : List Ratio) (sums : List Running) → length sums ≡ length supply → length (enumerate_from 0 (zip supply sums)) ≡ length supply
+length-sums supply sums e = omega (arith, length-enumerate_from 0 (zip supply sums), length-zip supply sums)
+
+pub sum_at : (supply : List Ratio) (sums : List Running) (v : ℕ) (b : Ratio) (s : Running) → length sums ≡ length supply → v < length supply → b ≡ get_or supply v b → s ≡ get_or sums v s
+    → get_or (enumerate_from 0 (zip supply sums)) v (v, (b, s)) ≡ (v, (b, s))
+sum_at supply sums v b s e h at_b at_s =
+    let long : v < length (zip supply sums) = omega (arith, length-zip supply sums) in
+    get_or-enumerate_from 0 (zip supply sums) v (v, (b, s)) long
+    ∙ ap₂ {A = ℕ} {B = Ratio × Running} {C = ℕ × (Ratio × Running)} (λ n z. (n, z)) (omega arith)
+    (get_or-zip supply sums v (b, s) h (omega arith) ∙ ap₂ {A = Ratio} {B = Running} {C = Ratio × Running} (λ x y. (x, y)) (sym at_b) (sym at_s))
+
+sums_as : (k : ℕ) (from : ℕ) (supply : List Ratio) (sums : List Running) (f : ℕ → Running) → length sums ≡ length supply → ((j : ℕ) (d : Running) → j < length sums → get_or sums j d ≡ f (from + j))
+    → first_refusal (sum_clause k) (enumerate_from from (zip supply sums)) ≡ first_refusal (λ (v, b). tested C1 (f v) (λ found. refused_if (not (ratio_eq found b)) (reject_node k v))) (enumerate_from from supply)
+sums_as k from [] sums f e h = refl
+sums_as k from (b ∷ supply) [] f e h = absurd (omega arith)
+sums_as k from (b ∷ supply) (s ∷ sums) f e h =
+    let here : s ≡ f from = h 0 s (omega arith) ∙ ap f (omega arith) in
+    let rest = sums_as k (from + 1) supply sums f (omega arith) (λ j d below. h (suc j) d (omega arith) ∙ ap f (omega arith)) in
+    rw (here, rest) refl
+
+-- the clauses of the known sums are those of the balances
+pub sums_are : (k : ℕ) (supply : List Ratio) (sums : List Running) (pairs : List (Stage × Ratio)) → length sums ≡ length supply → ((v : ℕ) (d : Running) → v < length sums → get_or sums v d ≡ balance_of pairs v)
+    → first_refusal (sum_clause k) (enumerate_from 0 (zip supply sums)) ≡ first_refusal (balance_clause k pairs) (enumerate_from 0 supply)
+sums_are k supply sums pairs e h = sums_as k 0 supply sums (balance_of pairs) e (λ j d below. h j d below ∙ ap (balance_of pairs) (omega arith))

@@ -1,0 +1,7 @@
+pub mod Balances
+pub mod First
+pub mod Pairs
+pub mod Exact
+pub mod Staged
+pub mod Theorem
+pub mod Whole

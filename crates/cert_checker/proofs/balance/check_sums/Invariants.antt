@@ -1,0 +1,8 @@
+use Rattle.std.proofs.Common.{◌≡◌, None, take}
+use Rattle.std.specs.List.{zip, enumerate_from}
+use Rattle.cert_checker.specs.Walk.{first_refusal}
+use Rattle.cert_checker.specs.Sums.{sum_clause}
+use Rattle.cert_checker.proofs.balance.check_sums.Given as goal
+
+abbrev pub invariant-loop-node : goal.invariant-loop-node
+invariant-loop-node l = first_refusal (sum_clause l.nodes) (take l.node (enumerate_from 0 (zip l.supply l.sums))) ≡ None

@@ -1,0 +1,4 @@
+pub mod Walk
+pub mod Plain
+pub mod Sums
+pub mod Proves

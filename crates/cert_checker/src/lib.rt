@@ -1,0 +1,13 @@
+//! The checker: whether a plan is what it claims to be. It stands on the numbers and the model alone, so a planner
+//! who distrusts everything else reads these three crates.
+#![tactic(auto)]
+
+mod answer;
+mod balance;
+mod bound;
+mod cost;
+mod reduced;
+mod walk;
+
+pub use answer::{CheckRefusal, Checked, Clause};
+pub use walk::check;
