@@ -5,3 +5,4 @@ pub mod Lcm
 pub mod Lowest
 pub mod Exact
 pub mod Order
+pub mod Text

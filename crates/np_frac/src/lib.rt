@@ -4,7 +4,9 @@
 mod divisor;
 mod frac;
 mod memory;
+mod text;
 mod wide;
 
 pub use frac::{Frac, Op, Past};
 pub use memory::Memory;
+pub use text::write_frac;
