@@ -6,3 +6,4 @@ pub mod Field
 pub mod Fractions
 pub mod SumParts
 pub mod Exactness
+pub mod Amounts

@@ -6,3 +6,4 @@ pub mod Lowest
 pub mod Exact
 pub mod Order
 pub mod Text
+pub mod Amount
