@@ -7,3 +7,4 @@ pub mod Fractions
 pub mod SumParts
 pub mod Exactness
 pub mod Amounts
+pub mod Texts

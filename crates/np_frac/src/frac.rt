@@ -1,5 +1,5 @@
 ghost use Rattle.std.specs.Prelude.{◌≡◌, ◌≢◌, ◌*◌, ◌*ℤ◌, ◌≤ℤ◌, ◌↔◌, ◌⊎◌, IsNone, IfSome, IsTrue, pos, neg_ℤ, ◌<◌, ◌^◌, unsigned_abs};
-ghost use Rattle.np_frac.specs.Ratio.{IsLowest, whole, negated, inverse, is_below, ◌+ᵣ◌, ◌*ᵣ◌};
+ghost use Rattle.np_frac.specs.Ratio.{IsLowest, over_some, whole, negated, inverse, is_below, ◌+ᵣ◌, ◌*ᵣ◌};
 ghost use Rattle.np_frac.specs.Lowest.{Fit, IsFound, IsSumFound};
 ghost use Rattle.np_frac.specs.Order.{ratio_cmp};
 
@@ -66,7 +66,8 @@ impl Frac {
         requires some { 0 < den }
         requires size { unsigned_abs num < 2 ^ 127 }
         requires fits { den < 2 ^ 127 }
-        ensures { result.num *ℤ pos den ≡ num *ℤ pos result.den }
+        ensures value { result ≡ over_some num den }
+        ensures cross { result.num *ℤ pos den ≡ num *ℤ pos result.den }
     {
         let (num, den) = reduced(num, den);
         Frac { num, den }
