@@ -8,3 +8,5 @@ pub mod SumParts
 pub mod Exactness
 pub mod Amounts
 pub mod Texts
+pub mod ReadsBack
+pub mod Facts
