@@ -10,3 +10,4 @@ pub mod Amounts
 pub mod Texts
 pub mod ReadsBack
 pub mod Facts
+pub mod Wholes

@@ -1,3 +1,5 @@
+//! Fractions in lowest terms, and the exact operations on them.
+
 ghost use Rattle.std.specs.Prelude.{◌≡◌, ◌≢◌, ◌*◌, ◌*ℤ◌, ◌≤ℤ◌, ◌↔◌, ◌⊎◌, IsNone, IfSome, IsTrue, pos, neg_ℤ, ◌<◌, ◌^◌, unsigned_abs};
 ghost use Rattle.np_frac.specs.Ratio.{IsLowest, over_some, whole, negated, inverse, is_below, ◌+ᵣ◌, ◌*ᵣ◌};
 ghost use Rattle.np_frac.specs.Lowest.{Fit, IsFound, IsSumFound};
@@ -8,7 +10,8 @@ use crate::wide::{compare_products, lower_within, product_within, sum_within};
 use std::cmp::Ordering;
 use std::marker::Model;
 
-/// A fraction in lowest terms.
+/// A fraction in lowest terms. The numerator is at most 2^127 - 1 in size, the denominator is at least 1 and at most
+/// 2^127 - 1. In clauses a `Frac` is its ratio, and two are equal exactly where their ratios are.
 #[derive(Clone, Copy, PartialEq, Eq)]
 pub struct Frac {
     num: i128,
@@ -40,7 +43,7 @@ pub enum Op {
     Over,
 }
 
-/// An operation whose exact result does not fit, with its operands.
+/// An operation whose exact result does not fit, with its operands as they were given.
 #[derive(Clone, Copy, PartialEq, Eq)]
 pub struct Past {
     pub op: Op,
@@ -51,6 +54,7 @@ pub struct Past {
 impl Frac {
     ghost use Rattle.np_frac.specs.Exact.{plus_of, minus_of, times_of, over_of};
 
+    /// `num / den` in lowest terms. `None` exactly where `den` is not above 0 or `num` is the least `i128`.
     pub fn new(num: i128, den: i128) -> Option<Frac>
         ensures none { IsNone result ↔ ((den ≤ℤ pos 0) ⊎ (num ≡ i128.MIN)) }
         ensures value { IfSome result (λ f. f.num *ℤ den ≡ num *ℤ pos f.den) }
@@ -61,7 +65,7 @@ impl Frac {
         Some(Frac::from_parts(num, den as u128))
     }
 
-    /// The fraction of these parts, which need not be in lowest terms.
+    /// `num / den`, which need not be in lowest terms.
     pub(crate) fn from_parts(num: i128, den: u128) -> Frac
         requires some { 0 < den }
         requires size { unsigned_abs num < 2 ^ 127 }
@@ -73,6 +77,7 @@ impl Frac {
         Frac { num, den }
     }
 
+    /// A whole number.
     pub fn whole(value: i64) -> Frac
         ensures { result ≡ whole value }
     {
@@ -82,18 +87,21 @@ impl Frac {
         }
     }
 
+    /// The numerator in lowest terms, which has the sign.
     pub fn num(self) -> i128
         ensures { result ≡ self.num }
     {
         self.num
     }
 
+    /// The denominator in lowest terms, at least 1.
     pub fn den(self) -> i128
         ensures { result ≡ pos self.den }
     {
         self.den as i128
     }
 
+    /// The opposite, which always fits.
     pub fn negated(self) -> Frac
         ensures { result ≡ negated self }
     {
@@ -103,9 +111,44 @@ impl Frac {
         }
     }
 
+    /// A whole number of up to 127 bits.
+    fn integer(num: i128) -> Frac
+        requires { unsigned_abs num < 2 ^ 127 }
+        ensures { result ≡ whole num }
+    {
+        Frac { num, den: 1 }
+    }
+
+    /// The product of whole numbers, which takes no divisor.
+    fn whole_product(left: i128, right: i128) -> Option<Frac>
+        ensures { IsFound result (whole left *ᵣ whole right) }
+    {
+        match product_within(left, right) {
+            Some(num) => Some(Frac::integer(num)),
+            None => None,
+        }
+    }
+
+    /// The sum of whole numbers, which takes no divisor.
+    fn whole_sum(left: i128, right: i128) -> Option<Frac>
+        requires left_fits { unsigned_abs left < 2 ^ 127 }
+        requires right_fits { unsigned_abs right < 2 ^ 127 }
+        ensures { IsSumFound result (whole left) (whole right) }
+    {
+        match sum_within(left, right) {
+            Some(num) => Some(Frac::integer(num)),
+            None => None,
+        }
+    }
+
+    /// The product, and `None` where it does not fit. Cancelled across first, since a product of parts may pass where
+    /// its lowest terms do not.
     fn product_of(self, other: Frac) -> Option<Frac>
         ensures { IsFound result (self *ᵣ other) }
     {
+        if self.den == 1 && other.den == 1 {
+            return Frac::whole_product(self.num, other.num);
+        }
         let (left, lower_right) = reduced(self.num, other.den);
         let (right, lower_left) = reduced(other.num, self.den);
         let num = product_within(left, right)?;
@@ -113,9 +156,13 @@ impl Frac {
         Some(Frac { num, den })
     }
 
+    /// The sum, and `None` where the least common denominator, either numerator over it, or their sum does not fit.
     fn sum_of(self, other: Frac) -> Option<Frac>
         ensures { IsSumFound result self other }
     {
+        if self.den == 1 && other.den == 1 {
+            return Frac::whole_sum(self.num, other.num);
+        }
         let shared = gcd(self.den, other.den);
         let (left_by, right_by) = (other.den / shared, self.den / shared);
         let common = lower_within(self.den, left_by)?;
@@ -126,6 +173,7 @@ impl Frac {
         Some(Frac { num, den })
     }
 
+    /// The exact product. [`Past`] exactly where its lowest terms do not fit.
     pub fn times(self, other: Frac) -> Result<Frac, Past>
         ensures { result ≡ times_of self other }
     {
@@ -136,6 +184,8 @@ impl Frac {
         })
     }
 
+    /// The exact sum. [`Past`] exactly where the least common denominator, either numerator over it, or the sum of these
+    /// numerators does not fit.
     pub fn plus(self, other: Frac) -> Result<Frac, Past>
         ensures { result ≡ plus_of self other }
     {
@@ -146,6 +196,8 @@ impl Frac {
         })
     }
 
+    /// The exact difference. [`Past`] exactly where the least common denominator, either numerator over it, or the
+    /// difference of these numerators does not fit.
     pub fn minus(self, other: Frac) -> Result<Frac, Past>
         ensures { result ≡ minus_of self other }
     {
@@ -156,7 +208,7 @@ impl Frac {
         })
     }
 
-    /// One over the fraction.
+    /// One over a fraction that is not 0.
     fn inverted(self) -> Frac
         requires { self.num ≢ pos 0 }
         ensures { result.num *ℤ self.num ≡ pos (result.den * self.den) }
@@ -169,6 +221,7 @@ impl Frac {
         Frac { num, den }
     }
 
+    /// The exact quotient by a fraction that is not 0. [`Past`] exactly where its lowest terms do not fit.
     pub fn over(self, other: Frac) -> Result<Frac, Past>
         requires { other.num ≢ pos 0 }
         ensures { result ≡ over_of self other }
@@ -180,20 +233,21 @@ impl Frac {
         })
     }
 
-    /// Whether it is below the other.
+    /// Whether it is below the other, exactly for any two fractions.
     pub fn is_below(self, other: Frac) -> bool
         ensures { result ≡ is_below self other }
     {
         self < other
     }
 
-    /// Whether it is the other.
+    /// Whether it is equal to the other.
     pub fn is_same(self, other: Frac) -> bool
         ensures { IsTrue result ↔ (self ≡ other) }
     {
         self == other
     }
 
+    /// The exact order of any two fractions, though their cross products need 254 bits.
     pub fn compare(self, other: Frac) -> Ordering
         ensures { result ≡ ratio_cmp self other }
     {
