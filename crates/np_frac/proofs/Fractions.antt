@@ -7,7 +7,7 @@ use Rattle.std.proofs.lemmas.Nat.Gcd.{le_of_dvd, IsGcd-swap}
 use Rattle.np_frac.specs.Lowest.{Fit, Fits, IsReduced}
 use Rattle.np_frac.specs.Ratio.{Ratio, IsLowest, made, over_is, over_some, product_is, same_ratio, ◌*ᵣ◌}
 use Rattle.np_frac.specs.Signs.{unsigned_abs-neg, cross_trans, cross-products, up-*, down-*, from_cross}
-use borrow.Author.Differences.{up, down}
+use borrow.Author.Differences.{up, down, same_in}
 use Rattle.np_frac.specs.Coprime.{coprime-quotients, coprime-products, coprime-divisors}
 
 pub Fit-neg : {z : ℤ} {d : ℕ} → Fit z d → Fit (neg_ℤ z) d
@@ -35,6 +35,17 @@ IsReduced-quotients num den g x some h e =
         positive = grind arith;
         coprime = coprime-quotients _ _ g _ _ above h e' y;
       };
+    }
+
+-- with no common divisor there is nothing to divide by
+pub IsReduced-coprime : (num : ℤ) (den g : ℕ) → 0 < den → IsGcd (unsigned_abs num) den g → g ≡ 1 → IsReduced num den num den
+IsReduced-coprime num den g some h e =
+    record {
+      factor = 1;
+      some = omega arith;
+      num_is = same_in _ _ (simp (up-*, down-*) (omega arith));
+      den_is = omega arith;
+      lowest = record { positive = some; coprime = subst (λ (k : ℕ). IsGcd (unsigned_abs num) den k) e h };
     }
 
 -- the parts of a reduced fraction divide the parts before
