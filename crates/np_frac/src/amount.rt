@@ -40,3 +40,54 @@ pub fn read_amount(bytes: &[u8]) -> Option<Frac>
     let (upper, lower) = amount_parts(read_number(whole, 18)?, end)?;
     Some(Frac::from_parts(with_sign(bytes, upper), lower))
 }
+
+#[cfg(test)]
+mod tests {
+    use super::*;
+    use std::test::Fail;
+
+    #[test]
+    fn amounts(rt: HostRuntime) -> Result<(), Fail> {
+        let texts: [(&str, i128, i128); 8] = [
+            ("12.50", 25, 2),
+            ("-0", 0, 1),
+            ("7/21", 1, 3),
+            ("-0.000000001", -1, 1_000_000_000),
+            ("000000000000000012", 12, 1),
+            ("999999999999999999", 999_999_999_999_999_999, 1),
+            ("-1/9999999999999999999", -1, 9_999_999_999_999_999_999),
+            (
+                "123456789012345678.123456789",
+                123_456_789_012_345_678_123_456_789,
+                1_000_000_000,
+            ),
+        ];
+        for (text, num, den) in texts {
+            let value = read_amount(text.as_bytes()).ok_or("not an amount")?;
+            assert!(rt; Some(value) == Frac::new(num, den));
+        }
+        Ok(())
+    }
+
+    #[test]
+    fn refused(rt: HostRuntime) -> Result<(), Fail> {
+        let texts: [&str; 12] = [
+            "",
+            "-",
+            "1.",
+            ".5",
+            "+1",
+            "1/0",
+            "1/",
+            "1.2/3",
+            "1.0000000000",
+            "0000000000000000001",
+            "1/00000000000000000001",
+            "1e3",
+        ];
+        for text in texts {
+            assert!(rt; read_amount(text.as_bytes()).is_none());
+        }
+        Ok(())
+    }
+}

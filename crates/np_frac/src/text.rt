@@ -68,3 +68,65 @@ pub fn printed_is_read()
     ensures fraction { (r : Ratio) → Fits r → IsFraction (printed r) }
     ensures value { (r : Ratio) → Fits r → fraction_of (printed r) ≡ r }
 {}
+
+#[cfg(test)]
+mod tests {
+    use super::*;
+    use std::test::Fail;
+
+    #[test]
+    fn read_and_written(rt: HostRuntime) -> Result<(), Fail> {
+        let texts: [(&str, &str); 8] = [
+            ("-0", "0"),
+            ("007/21", "1/3"),
+            ("-6/4", "-3/2"),
+            ("-12", "-12"),
+            ("4/2", "2"),
+            (
+                "1/100000000000000000000000000000000000000",
+                "1/100000000000000000000000000000000000000",
+            ),
+            (
+                "170141183460469231731687303715884105727",
+                "170141183460469231731687303715884105727",
+            ),
+            (
+                "-170141183460469231731687303715884105727/00000000000000000000000000000000000006",
+                "-170141183460469231731687303715884105727/6",
+            ),
+        ];
+        for (text, printed) in texts {
+            let value = read_frac(text.as_bytes()).ok_or("not a fraction")?;
+            let mut out = Vec::from_slice(rt.alloc(), b"x ")?;
+            assert!(rt; write_frac(value, &mut out) == Ok(()));
+            assert!(rt; &out.as_slice()[..2] == b"x ".as_slice());
+            assert!(rt; &out.as_slice()[2..] == printed.as_bytes());
+            assert!(rt; read_frac(printed.as_bytes()) == Some(value));
+        }
+        Ok(())
+    }
+
+    #[test]
+    fn refused(rt: HostRuntime) -> Result<(), Fail> {
+        let texts: [&str; 14] = [
+            "",
+            "-",
+            "+1",
+            "--1",
+            "1/",
+            "/2",
+            "1/0",
+            "1/-2",
+            "1.5",
+            "1 ",
+            "1/2/3",
+            "170141183460469231731687303715884105728",
+            "1/170141183460469231731687303715884105728",
+            "0000000000000000000000000000000000000001",
+        ];
+        for text in texts {
+            assert!(rt; read_frac(text.as_bytes()).is_none());
+        }
+        Ok(())
+    }
+}
