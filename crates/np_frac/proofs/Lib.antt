@@ -11,3 +11,4 @@ pub mod Texts
 pub mod ReadsBack
 pub mod Facts
 pub mod Wholes
+pub mod AmountTexts

@@ -1,5 +1,5 @@
 -- The amounts of network texts.
-use Rattle.std.specs.Prelude.{ℕ, ◌==◌, ◌%◌, ◌+◌, ◌*◌, ◌^◌, ◌<◌, nat_lt, ◌&&◌, ◌||◌, unsigned_abs, Bool, List, [], ◌∷◌, length, if◌then◌else◌, MatchBool}
+use Rattle.std.specs.Prelude.{◌≡◌, ℕ, ◌==◌, ◌%◌, ◌+◌, ◌*◌, ◌^◌, ◌<◌, nat_lt, ◌&&◌, ◌||◌, unsigned_abs, Bool, List, [], ◌∷◌, length, if◌then◌else◌, MatchBool}
 use Rattle.np_frac.specs.Ratio.{Ratio, over_some}
 use Rattle.np_frac.specs.Text.{point, unsigned_part, signed, before_mark, from_mark, IsNumber, number}
 
@@ -28,6 +28,10 @@ abbrev pub amount_of : List ℕ → Ratio
 amount_of bs =
     let us = unsigned_part bs in
     over_some (signed bs (amount_upper (number (before_mark us)) (from_mark us))) (amount_lower (from_mark us))
+
+-- some amount's text writes the ratio
+abbrev pub HasAmountText : Ratio → Type 0
+HasAmountText r = (bs : List ℕ) × (IsAmount bs × (r ≡ amount_of bs))
 
 -- ---- which ratios are amounts
 

@@ -1,10 +1,13 @@
-//! The laws of ratios: a commutative field with a total order, sums of lists, and what the exact operations answer.
+//! The laws of ratios: a commutative field with a total order, sums of lists, what the exact operations answer, and
+//! what the texts write.
 //! Each function does nothing, and its clauses are the laws.
 
-ghost use Rattle.std.specs.Prelude.{◌≡◌, ◌≢◌, ℕ, ◌*◌, ◌<◌, ◌^◌, pos, ◌+ℤ◌, ◌*ℤ◌, ◌≤ℤ◌, ◌<ℤ◌, ◌↔◌, ◌⊎◌, IsTrue, List, All, Ok};
+ghost use Rattle.std.specs.Prelude.{◌≡◌, ◌≢◌, ℕ, ◌*◌, ◌<◌, ◌^◌, pos, ℤ, unsigned_abs, ◌+ℤ◌, ◌*ℤ◌, ◌≤ℤ◌, ◌<ℤ◌, ◌↔◌, ◌⊎◌, IsTrue, List, All, Ok};
 ghost use Rattle.np_frac.specs.Ratio.{Ratio, zero_ratio, one_ratio, whole, negated, inverse, is_below, total, ◌+ᵣ◌, ◌-ᵣ◌, ◌*ᵣ◌, ◌≤ᵣ◌, ◌<ᵣ◌};
 ghost use Rattle.np_frac.specs.Lcm.{IsLcm, lcm};
 ghost use Rattle.np_frac.specs.Lowest.{Fits};
+ghost use Rattle.np_frac.specs.Text.{printed, IsFraction, fraction_of};
+ghost use Rattle.np_frac.specs.Amount.{IsAmount, amount_of, is_amount, HasAmountText};
 ghost use Rattle.np_frac.specs.Exact.{fits, plus_of, minus_of, times_of, over_of};
 
 /// Two ratios are equal where their cross products are.
@@ -89,4 +92,18 @@ pub fn exact_answers()
     ensures times { (a b r : Ratio) → times_of a b ≡ Ok r → r ≡ a *ᵣ b }
     ensures over { (a b r : Ratio) → over_of a b ≡ Ok r → r ≡ a *ᵣ inverse b }
     ensures fits { (r : Ratio) → IsTrue (fits r) ↔ Fits r }
+{}
+
+/// The printed form of a fraction is the text of a fraction, and reading it gives the fraction back.
+pub fn printed_forms()
+    ensures fraction { (r : Ratio) → Fits r → IsFraction (printed r) }
+    ensures value { (r : Ratio) → Fits r → fraction_of (printed r) ≡ r }
+{}
+
+/// The ratios that network texts write are exactly those that `is_amount` tests for, and the whole numbers of at most
+/// 18 digits are among them.
+pub fn amounts()
+    ensures value { (bs : List ℕ) → IsAmount bs → IsTrue (is_amount (amount_of bs)) }
+    ensures text { (r : Ratio) → IsTrue (is_amount r) → HasAmountText r }
+    ensures whole { (z : ℤ) → unsigned_abs z < 10 ^ 18 → IsTrue (is_amount (whole z)) }
 {}

@@ -13,4 +13,4 @@ mod wide;
 pub use amount::read_amount;
 pub use frac::{Frac, Op, Past};
 pub use memory::Memory;
-pub use text::{printed_is_read, read_frac, write_frac};
+pub use text::{read_frac, write_frac};

@@ -2,8 +2,6 @@
 
 ghost use Rattle.std.specs.Prelude.{◌≡◌, ◌≤◌, ◌<◌, ◌^◌, ◌++◌, OnOk, OnErr, IfSome};
 ghost use Rattle.std.specs.Option.{SomeIff};
-ghost use Rattle.np_frac.specs.Ratio.{Ratio};
-ghost use Rattle.np_frac.specs.Lowest.{Fits};
 ghost use Rattle.np_frac.specs.Text.{printed, IsFraction, fraction_of, IsFractionEnd, fraction_lower as lower_of};
 
 use crate::digits::{read_part, split_at_mark, with_sign, without_minus};
@@ -62,12 +60,6 @@ pub fn read_frac(bytes: &[u8]) -> Option<Frac>
     let lower = fraction_lower(end)?;
     Some(Frac::from_parts(with_sign(bytes, upper), lower))
 }
-
-/// A printed form is the text of a fraction, and [`read_frac`] of it gives the value back.
-pub fn printed_is_read()
-    ensures fraction { (r : Ratio) → Fits r → IsFraction (printed r) }
-    ensures value { (r : Ratio) → Fits r → fraction_of (printed r) ≡ r }
-{}
 
 #[cfg(test)]
 mod tests {
