@@ -5,3 +5,4 @@ pub mod Exact
 pub mod Staged
 pub mod Theorem
 pub mod Whole
+pub mod Signs

@@ -1,10 +1,11 @@
 //! The reduced costs of the flows.
 
-ghost use Rattle.std.specs.Prelude.{◌≡◌, ◌<◌, ◌^◌, length};
+ghost use Rattle.std.specs.Prelude.{◌≡◌, ◌<◌, ◌^◌, ◌&&◌, not, length};
+ghost use Rattle.np_frac.specs.Ratio.{is_below};
 ghost use Rattle.std.specs.List.{All, zip};
 ghost use Rattle.np_model.specs.Valid.{IsSound};
 ghost use Rattle.cert_checker.specs.Sums.{sign_clause};
-ghost use Rattle.cert_checker.specs.Walk.{price_of, reduced_clause, first_refusal, passes_unless};
+ghost use Rattle.cert_checker.specs.Walk.{is_past as past_of, is_under as under_of, price_of, reduced_clause, first_refusal, passes_unless};
 ghost use Rattle.cert_checker.specs.Plain.{AreNodes, IsPlainFlow, plain_stage, plain_stages};
 
 use crate::answer::{CheckRefusal, Clause};
@@ -29,6 +30,20 @@ fn price(prices: &[Frac], ends: Ends, slope: Frac) -> Result<Frac, Past>
     }
 }
 
+// Whether the amount lies above the lower bound, and no higher than the upper.
+fn could_fall(flow: &Flow, amount: Frac) -> bool
+    ensures { result ≡ (is_below flow.now.lower amount && not (past_of amount flow.now.upper)) }
+{
+    flow.lower.is_below(amount) && !is_past(amount, flow.upper)
+}
+
+// Whether the amount lies below the upper bound, and no lower than the lower.
+fn could_rise(flow: &Flow, amount: Frac) -> bool
+    ensures { result ≡ (not (is_below amount flow.now.lower) && under_of amount flow.now.upper) }
+{
+    !amount.is_below(flow.lower) && is_under(amount, flow.upper)
+}
+
 // Whether the reduced cost of a flow has the sign that its amount asks for: not above 0 where the flow could fall, not
 // below 0 where it could rise.
 fn check_flow(prices: &[Frac], number: u32, flow: &Flow, amount: Frac) -> Result<(), CheckRefusal>
@@ -36,13 +51,13 @@ fn check_flow(prices: &[Frac], number: u32, flow: &Flow, amount: Frac) -> Result
     requires sound { IsSound (length prices.now) flow.now }
     ensures { result ≡ passes_unless (reduced_clause prices.now (plain_stage (number, flow.now), amount)) }
 {
-    let could_fall = flow.lower.is_below(amount) && !is_past(amount, flow.upper);
-    let could_rise = !amount.is_below(flow.lower) && is_under(amount, flow.upper);
-    if !could_fall && !could_rise {
+    let falls = could_fall(flow, amount);
+    let rises = could_rise(flow, amount);
+    if !falls && !rises {
         return Ok(());
     }
     match price(prices, ends_of(flow.kind), flow.cost) {
-        Ok(reduced) => check_sign(number, could_fall, could_rise, reduced),
+        Ok(reduced) => check_sign(number, falls, rises, reduced),
         Err(past) => Err(CheckRefusal::Past {
             row: CheckRow::C3,
             past,
@@ -51,16 +66,11 @@ fn check_flow(prices: &[Frac], number: u32, flow: &Flow, amount: Frac) -> Result
 }
 
 // Whether a reduced cost has the sign that is asked for.
-fn check_sign(
-    number: u32,
-    could_fall: bool,
-    could_rise: bool,
-    reduced: Frac,
-) -> Result<(), CheckRefusal>
-    ensures { result ≡ passes_unless (sign_clause number could_fall could_rise reduced) }
+fn check_sign(number: u32, falls: bool, rises: bool, reduced: Frac) -> Result<(), CheckRefusal>
+    ensures { result ≡ passes_unless (sign_clause number falls rises reduced) }
 {
     let zero = Frac::whole(0);
-    if could_fall && zero.is_below(reduced) || could_rise && reduced.is_below(zero) {
+    if falls && zero.is_below(reduced) || rises && reduced.is_below(zero) {
         return Err(CheckRefusal::Reject {
             clause: Clause::Reduced,
             name: Some(number),

@@ -12,11 +12,11 @@ use Rattle.np_frac.proofs.SumParts.{common_symm, sum-common, sum-left, sum-right
 use Rattle.np_frac.specs.declared.frac.Past.{Past}
 use Rattle.np_frac.specs.declared.frac.Op.TheVariants.{Plus, Minus, Times, Over}
 
-left_true : (s t : Bool) → (s && t) ≡ true → s ≡ true
+pub left_true : (s t : Bool) → (s && t) ≡ true → s ≡ true
 left_true true t e = refl
 left_true false t e = e
 
-right_true : (s t : Bool) → (s && t) ≡ true → t ≡ true
+pub right_true : (s t : Bool) → (s && t) ≡ true → t ≡ true
 right_true true t e = e
 right_true false t e = absurd (cc e)
 

@@ -90,7 +90,7 @@ pub quotient_at_most : (t d r : Ratio) → zero_ratio <ᵣ d → t *ᵣ d ≤ᵣ
 quotient_at_most t d r h k =
     rw (turned (inverse d) t d, *ᵣ-inverse d (above-apart h), *ᵣ-one t, *ᵣ_comm (inverse d) r) at (*ᵣ_at_most (<ᵣ_is_≤ᵣ (inverse_above h)) k)
 
-times_one : (z : ℤ) → z *ℤ pos 1 ≡ z
+pub times_one : (z : ℤ) → z *ℤ pos 1 ≡ z
 times_one z = same_in _ _ (omega (arith, product_is z (pos 1)))
 
 pub whole-+ᵣ : (y z : ℤ) → whole y +ᵣ whole z ≡ whole (y +ℤ z)

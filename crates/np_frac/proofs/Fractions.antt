@@ -1,13 +1,13 @@
 -- Fractions in lowest terms.
-use Rattle.std.proofs.Common.{◌≡◌, ℕ, ◌<◌, ◌≤◌, ◌*◌, ◌/◌, ◌^◌, arith, sym, subst, ap, ◌∙◌, ℤ, pos, neg_ℤ, ◌*ℤ◌, unsigned_abs, to_z}
+use Rattle.std.proofs.Common.{◌≡◌, ℕ, ◌<◌, ◌≤◌, ◌*◌, ◌/◌, ◌^◌, max, arith, sym, subst, ap, ◌∙◌, ℤ, pos, neg_ℤ, ◌*ℤ◌, unsigned_abs, to_z}
 use Rattle.std.specs.Int.{IsGcd, w128, ◌∣◌}
-use Rattle.std.proofs.Math.Nat.{dvd-mul_left, mul-div_cancel', pos_of_dvd_of_pos, mul-pos, div-le_self}
+use Rattle.std.proofs.Math.Nat.{dvd-mul_left, mul-div_cancel', pos_of_dvd_of_pos, mul-pos, div-le_self, le-max_left}
 use Rattle.std.proofs.lemmas.Int.{unsigned_abs-mul, to_z_pos}
 use Rattle.std.proofs.lemmas.Nat.Gcd.{le_of_dvd, IsGcd-swap}
 use Rattle.np_frac.specs.Lowest.{Fit, Fits, IsReduced}
-use Rattle.np_frac.specs.Ratio.{Ratio, IsLowest, made, product_is, ◌*ᵣ◌}
-use Rattle.np_frac.specs.Signs.{unsigned_abs-neg, cross-products, up-*, down-*, from_cross}
-use borrow.Author.Differences.{up, down}
+use Rattle.np_frac.specs.Ratio.{Ratio, IsLowest, made, over_is, over_some, product_is, same_ratio, ◌*ᵣ◌}
+use Rattle.np_frac.specs.Signs.{unsigned_abs-neg, cross_trans, cross-products, up-*, down-*, from_cross}
+use borrow.Author.Differences.{up, down, same_in}
 use Rattle.np_frac.specs.Coprime.{coprime-quotients, coprime-products, coprime-divisors}
 
 pub Fit-neg : {z : ℤ} {d : ℕ} → Fit z d → Fit (neg_ℤ z) d
@@ -35,6 +35,17 @@ IsReduced-quotients num den g x some h e =
         positive = grind arith;
         coprime = coprime-quotients _ _ g _ _ above h e' y;
       };
+    }
+
+-- with no common divisor there is nothing to divide by
+pub IsReduced-coprime : (num : ℤ) (den g : ℕ) → 0 < den → IsGcd (unsigned_abs num) den g → g ≡ 1 → IsReduced num den num den
+IsReduced-coprime num den g some h e =
+    record {
+      factor = 1;
+      some = omega arith;
+      num_is = same_in _ _ (simp (up-*, down-*) (omega arith));
+      den_is = omega arith;
+      lowest = record { positive = some; coprime = subst (λ (k : ℕ). IsGcd (unsigned_abs num) den k) e h };
     }
 
 -- the parts of a reduced fraction divide the parts before
@@ -108,3 +119,15 @@ product-lowest a b x u y v r s = IsLowest-product a.num b.num a.den b.den x u y 
 -- where the product fits, so do they
 pub product-fits : (a b : Ratio) (x u : ℤ) (y v : ℕ) → IsReduced a.num b.den x y → IsReduced b.num a.den u v → Fits (a *ᵣ b) → Fit (x *ℤ u) (v * y)
 product-fits a b x u y v r s h = subst Fits (sym (product-found a b x u y v r s (product-lowest a b x u y v r s))) h
+
+-- ---- n over d, where d is above 0
+
+pub over_some_cross : (n : ℤ) (d : ℕ) → 0 < d → (over_some n d).num *ℤ pos d ≡ n *ℤ pos (over_some n d).den
+over_some_cross n d some =
+    let e : max 1 d ≡ d = omega arith in
+    ap (λ (k : ℕ). (over_some n d).num *ℤ pos k) (sym e) ∙ over_is n (max 1 d) (le-max_left 1 d)
+
+pub over_some_is : (r : Ratio) (n : ℤ) (d : ℕ) → 0 < d → r.num *ℤ pos d ≡ n *ℤ pos r.den → r ≡ over_some n d
+over_some_is r n d some e =
+    let s = over_some n d in
+    same_ratio r s (cross_trans r.num n s.num r.den d s.den some e (sym (over_some_cross n d some)))

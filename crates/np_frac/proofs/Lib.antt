@@ -6,3 +6,9 @@ pub mod Field
 pub mod Fractions
 pub mod SumParts
 pub mod Exactness
+pub mod Amounts
+pub mod Texts
+pub mod ReadsBack
+pub mod Facts
+pub mod Wholes
+pub mod AmountTexts

@@ -5,4 +5,5 @@ pub mod Lcm
 pub mod Lowest
 pub mod Exact
 pub mod Order
-pub mod Amounts
+pub mod Text
+pub mod Amount

@@ -1,5 +1,7 @@
+//! Fractions in lowest terms, and the exact operations on them.
+
 ghost use Rattle.std.specs.Prelude.{◌≡◌, ◌≢◌, ◌*◌, ◌*ℤ◌, ◌≤ℤ◌, ◌↔◌, ◌⊎◌, IsNone, IfSome, IsTrue, pos, neg_ℤ, ◌<◌, ◌^◌, unsigned_abs};
-ghost use Rattle.np_frac.specs.Ratio.{IsLowest, whole, negated, inverse, is_below, ◌+ᵣ◌, ◌*ᵣ◌};
+ghost use Rattle.np_frac.specs.Ratio.{IsLowest, over_some, whole, negated, inverse, is_below, ◌+ᵣ◌, ◌*ᵣ◌};
 ghost use Rattle.np_frac.specs.Lowest.{Fit, IsFound, IsSumFound};
 ghost use Rattle.np_frac.specs.Order.{ratio_cmp, ratio_eq};
 
@@ -8,7 +10,8 @@ use crate::wide::{compare_products, lower_within, product_within, sum_within};
 use std::cmp::Ordering;
 use std::marker::Model;
 
-/// A fraction in lowest terms.
+/// A fraction in lowest terms. The numerator is at most 2^127 - 1 in size, the denominator is at least 1 and at most
+/// 2^127 - 1. In clauses a `Frac` is its ratio, and two are equal exactly where their ratios are.
 #[derive(Clone, Copy, Debug, PartialEq, Eq)]
 pub struct Frac {
     num: i128,
@@ -40,7 +43,7 @@ pub enum Op {
     Over,
 }
 
-/// An operation whose exact result does not fit, with its operands.
+/// An operation whose exact result does not fit, with its operands as they were given.
 #[derive(Clone, Copy, Debug, PartialEq, Eq)]
 pub struct Past {
     pub op: Op,
@@ -51,6 +54,7 @@ pub struct Past {
 impl Frac {
     ghost use Rattle.np_frac.specs.Exact.{plus_of, minus_of, times_of, over_of};
 
+    /// `num / den` in lowest terms. `None` exactly where `den` is not above 0 or `num` is the least `i128`.
     pub fn new(num: i128, den: i128) -> Option<Frac>
         ensures none { IsNone result ↔ ((den ≤ℤ pos 0) ⊎ (num ≡ i128.MIN)) }
         ensures value { IfSome result (λ f. f.num *ℤ den ≡ num *ℤ pos f.den) }
@@ -61,17 +65,19 @@ impl Frac {
         Some(Frac::from_parts(num, den as u128))
     }
 
-    /// The fraction of these parts, which need not be in lowest terms.
+    /// `num / den`, which need not be in lowest terms.
     pub(crate) fn from_parts(num: i128, den: u128) -> Frac
         requires some { 0 < den }
         requires size { unsigned_abs num < 2 ^ 127 }
         requires fits { den < 2 ^ 127 }
-        ensures { result.num *ℤ pos den ≡ num *ℤ pos result.den }
+        ensures value { result ≡ over_some num den }
+        ensures cross { result.num *ℤ pos den ≡ num *ℤ pos result.den }
     {
         let (num, den) = reduced(num, den);
         Frac { num, den }
     }
 
+    /// A whole number.
     pub fn whole(value: i64) -> Frac
         ensures { result ≡ whole value }
     {
@@ -81,18 +87,21 @@ impl Frac {
         }
     }
 
+    /// The numerator in lowest terms, which has the sign.
     pub fn num(self) -> i128
         ensures { result ≡ self.num }
     {
         self.num
     }
 
+    /// The denominator in lowest terms, at least 1.
     pub fn den(self) -> i128
         ensures { result ≡ pos self.den }
     {
         self.den as i128
     }
 
+    /// The opposite, which always fits.
     pub fn negated(self) -> Frac
         ensures { result ≡ negated self }
     {
@@ -102,9 +111,44 @@ impl Frac {
         }
     }
 
+    /// A whole number of up to 127 bits.
+    fn integer(num: i128) -> Frac
+        requires { unsigned_abs num < 2 ^ 127 }
+        ensures { result ≡ whole num }
+    {
+        Frac { num, den: 1 }
+    }
+
+    /// The product of whole numbers, which takes no divisor.
+    fn whole_product(left: i128, right: i128) -> Option<Frac>
+        ensures { IsFound result (whole left *ᵣ whole right) }
+    {
+        match product_within(left, right) {
+            Some(num) => Some(Frac::integer(num)),
+            None => None,
+        }
+    }
+
+    /// The sum of whole numbers, which takes no divisor.
+    fn whole_sum(left: i128, right: i128) -> Option<Frac>
+        requires left_fits { unsigned_abs left < 2 ^ 127 }
+        requires right_fits { unsigned_abs right < 2 ^ 127 }
+        ensures { IsSumFound result (whole left) (whole right) }
+    {
+        match sum_within(left, right) {
+            Some(num) => Some(Frac::integer(num)),
+            None => None,
+        }
+    }
+
+    /// The product, and `None` where it does not fit. Cancelled across first, since a product of parts may pass where
+    /// its lowest terms do not.
     fn product_of(self, other: Frac) -> Option<Frac>
         ensures { IsFound result (self *ᵣ other) }
     {
+        if self.den == 1 && other.den == 1 {
+            return Frac::whole_product(self.num, other.num);
+        }
         let (left, lower_right) = reduced(self.num, other.den);
         let (right, lower_left) = reduced(other.num, self.den);
         let num = product_within(left, right)?;
@@ -112,9 +156,13 @@ impl Frac {
         Some(Frac { num, den })
     }
 
+    /// The sum, and `None` where the least common denominator, either numerator over it, or their sum does not fit.
     fn sum_of(self, other: Frac) -> Option<Frac>
         ensures { IsSumFound result self other }
     {
+        if self.den == 1 && other.den == 1 {
+            return Frac::whole_sum(self.num, other.num);
+        }
         let shared = gcd(self.den, other.den);
         let (left_by, right_by) = (other.den / shared, self.den / shared);
         let common = lower_within(self.den, left_by)?;
@@ -125,6 +173,7 @@ impl Frac {
         Some(Frac { num, den })
     }
 
+    /// The exact product. [`Past`] exactly where its lowest terms do not fit.
     pub fn times(self, other: Frac) -> Result<Frac, Past>
         ensures { result ≡ times_of self other }
     {
@@ -135,6 +184,8 @@ impl Frac {
         })
     }
 
+    /// The exact sum. [`Past`] exactly where the least common denominator, either numerator over it, or the sum of these
+    /// numerators does not fit.
     pub fn plus(self, other: Frac) -> Result<Frac, Past>
         ensures { result ≡ plus_of self other }
     {
@@ -145,6 +196,8 @@ impl Frac {
         })
     }
 
+    /// The exact difference. [`Past`] exactly where the least common denominator, either numerator over it, or the
+    /// difference of these numerators does not fit.
     pub fn minus(self, other: Frac) -> Result<Frac, Past>
         ensures { result ≡ minus_of self other }
     {
@@ -155,7 +208,7 @@ impl Frac {
         })
     }
 
-    /// One over the fraction.
+    /// One over a fraction that is not 0.
     fn inverted(self) -> Frac
         requires { self.num ≢ pos 0 }
         ensures { result.num *ℤ self.num ≡ pos (result.den * self.den) }
@@ -168,6 +221,7 @@ impl Frac {
         Frac { num, den }
     }
 
+    /// The exact quotient by a fraction that is not 0. [`Past`] exactly where its lowest terms do not fit.
     pub fn over(self, other: Frac) -> Result<Frac, Past>
         requires { other.num ≢ pos 0 }
         ensures { result ≡ over_of self other }
@@ -179,14 +233,14 @@ impl Frac {
         })
     }
 
-    /// Whether it is below the other.
+    /// Whether it is below the other, exactly for any two fractions.
     pub fn is_below(self, other: Frac) -> bool
         ensures { result ≡ is_below self other }
     {
         self < other
     }
 
-    /// Whether it is the other.
+    /// Whether it is equal to the other.
     pub fn is_same(self, other: Frac) -> bool
         ensures test { result ≡ ratio_eq self other }
         ensures same { IsTrue result ↔ (self ≡ other) }
@@ -194,6 +248,7 @@ impl Frac {
         self == other
     }
 
+    /// The exact order of any two fractions, though their cross products need 254 bits.
     pub fn compare(self, other: Frac) -> Ordering
         ensures { result ≡ ratio_cmp self other }
     {
@@ -235,5 +290,70 @@ impl PartialOrd for Frac {
 
     fn partial_cmp(&self, other: &Frac) -> Option<Ordering> {
         Some(self.compare(*other))
+    }
+}
+
+#[cfg(test)]
+mod tests {
+    use super::*;
+    use std::test::Fail;
+
+    const MOST: i128 = i128::MAX;
+
+    fn frac(num: i128, den: i128) -> Result<Frac, Fail> {
+        Ok(Frac::new(num, den).ok_or("not a fraction")?)
+    }
+
+    #[test]
+    fn made(rt: HostRuntime) -> Result<(), Fail> {
+        assert!(rt; Frac::new(4, -2).is_none());
+        assert!(rt; Frac::new(1, 0).is_none());
+        assert!(rt; Frac::new(i128::MIN, 1).is_none());
+        assert!(rt; Frac::new(-MOST, MOST) == Some(Frac::whole(-1)));
+        assert!(rt; frac(0, 7)? == Frac::whole(0));
+        let reduced = frac(-6, 4)?;
+        assert!(rt; reduced.num() == -3 && reduced.den() == 2);
+        assert!(rt; reduced.is_same(frac(-9, 6)?));
+        assert!(rt; reduced.negated() == frac(3, 2)?);
+        Ok(())
+    }
+
+    #[test]
+    fn exact_results(rt: HostRuntime) -> Result<(), Fail> {
+        let (half, third) = (frac(1, 2)?, frac(1, 3)?);
+        assert!(rt; half.plus(third) == Ok(frac(5, 6)?));
+        assert!(rt; half.minus(third) == Ok(frac(1, 6)?));
+        assert!(rt; half.times(third) == Ok(frac(1, 6)?));
+        assert!(rt; half.over(third.negated()) == Ok(frac(-3, 2)?));
+        assert!(rt; Frac::whole(7).plus(Frac::whole(-9)) == Ok(Frac::whole(-2)));
+        assert!(rt; Frac::whole(7).times(Frac::whole(-9)) == Ok(Frac::whole(-63)));
+        assert!(rt; third.is_below(half) && !half.is_below(third));
+        Ok(())
+    }
+
+    #[test]
+    fn edges(rt: HostRuntime) -> Result<(), Fail> {
+        let (most, one, half) = (frac(MOST, 1)?, Frac::whole(1), frac(1, 2)?);
+        let past = Past {
+            op: Op::Plus,
+            left: most,
+            right: one,
+        };
+        assert!(rt; most.plus(one) == Err(past));
+        assert!(rt; most.minus(one) == Ok(frac(MOST - 1, 1)?));
+        // The sum of the numerators passes before it is reduced.
+        let half_most = frac(MOST, 2)?;
+        assert!(rt; half_most.plus(half_most).is_err());
+        // The product fits once it is cancelled across.
+        assert!(rt; most.times(half) == Ok(half_most));
+        assert!(rt; half_most.times(frac(2, MOST)?) == Ok(one));
+        assert!(rt; most.times(Frac::whole(2)).is_err());
+        assert!(rt; half_most.over(most) == Ok(half));
+        // The cross products need 254 bits.
+        let (low, high) = (frac(MOST, MOST - 1)?, frac(MOST - 1, MOST - 2)?);
+        assert!(rt; low.compare(high) == Ordering::Less);
+        assert!(rt; low.negated().compare(high.negated()) == Ordering::Greater);
+        assert!(rt; low.compare(low) == Ordering::Equal);
+        Ok(())
     }
 }

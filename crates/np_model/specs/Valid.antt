@@ -4,7 +4,7 @@ use Rattle.std.specs.List.{list_all, All, AllPass, IsDistinct}
 use Rattle.std.specs.Str.{bytes_eq}
 use Rattle.std.proofs.Props.{props}
 use Rattle.np_frac.specs.Ratio.{Ratio, zero_ratio, ◌<ᵣ◌, <ᵣ-prop}
-use Rattle.np_frac.specs.Amounts.{is_amount}
+use Rattle.np_frac.specs.Amount.{is_amount}
 use Rattle.np_model.specs.declared.arc.Upper.{Upper}
 use Rattle.np_model.specs.declared.arc.Upper.TheVariants.{Finite, Infinite}
 use Rattle.np_model.specs.declared.scheme.FlowKind.{FlowKind}

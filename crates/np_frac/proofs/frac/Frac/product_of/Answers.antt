@@ -1,8 +1,9 @@
-use Rattle.std.proofs.Common.{rules, FitsSigned}
+use Rattle.std.proofs.Common.{◌≡◌, rules, FitsSigned}
 use Rattle.np_frac.proofs.Exactness.{found_as}
 use Rattle.std.specs.Int.{w128}
 use Rattle.std.proofs.lemmas.Int.{to_z-of_z}
-use Rattle.np_frac.specs.Ratio.{product_is}
+use Rattle.np_frac.specs.Ratio.{made, product_is}
+use Rattle.np_frac.proofs.Wholes.{whole_by_den}
 use Rattle.np_frac.proofs.Fractions.{product-is, IsLowest-product, product-fits}
 use Rattle.np_frac.proofs.frac.Frac.product_of.Goals as goal
 
@@ -54,3 +55,14 @@ returns c =
     (found_as _ _
     (product_is _ _ _ (simp to_z-of_z (rw (k.1, l.1) (product-is _ _ _ _ _ _ _ _ r s))))
     (record { num_fits = simp to_z-of_z (rw k.1 k.0); den_fits = rw l.1 l.0 }))
+
+pub returns-then-other-eq1 : goal.returns-then-other-eq1
+returns-then-other-eq1 c =
+    let fa : FitsSigned w128 c.self.inside.num = search rules in
+    let fb : FitsSigned w128 c.other.inside.num = search rules in
+    let a = made c.self.inside.num c.self.inside.den c.self.inside.lowest in
+    let b = made c.other.inside.num c.other.inside.den c.other.inside.lowest in
+    let e : a ≡ c.args.self = c.self.view_is in
+    let f : b ≡ c.args.other = c.other.view_is in
+    let k = simp to_z-of_z at c.whole_product.ensures in
+    rw (← e, ← f, whole_by_den a (search rules), whole_by_den b (search rules)) k

@@ -5,6 +5,7 @@ use Rattle.std.proofs.Math.Nat.{mul-pos}
 use Rattle.np_frac.specs.Ratio.{made, sum_is}
 use Rattle.np_frac.specs.Signs.{cross_trans}
 use Rattle.np_frac.proofs.Fractions.{gcd-some, reduced-same, cast_quotient, quotient-some}
+use Rattle.np_frac.proofs.Wholes.{whole_by_den}
 use Rattle.np_frac.proofs.SumParts.{SumParts, sum-common, sum-left, sum-right, HasSum-parts, sum-parts-same}
 use Rattle.np_frac.proofs.frac.Frac.sum_of.Goals as goal
 
@@ -80,3 +81,14 @@ nonzero_div-left_by c = gcd-some _ _ _ c.other.inside.lowest.positive c.gcd-shar
 
 pub nonzero_div-right_by : goal.nonzero_div-right_by
 nonzero_div-right_by c = gcd-some _ _ _ c.other.inside.lowest.positive c.gcd-shared.ensures
+
+pub returns-then-other-eq1 : goal.returns-then-other-eq1
+returns-then-other-eq1 c =
+    let fa : FitsSigned w128 c.self.inside.num = search rules in
+    let fb : FitsSigned w128 c.other.inside.num = search rules in
+    let a = made c.self.inside.num c.self.inside.den c.self.inside.lowest in
+    let b = made c.other.inside.num c.other.inside.den c.other.inside.lowest in
+    let e : a ≡ c.args.self = c.self.view_is in
+    let f : b ≡ c.args.other = c.other.view_is in
+    let k = simp to_z-of_z at c.whole_sum.ensures in
+    rw (← e, ← f, whole_by_den a (search rules), whole_by_den b (search rules)) k

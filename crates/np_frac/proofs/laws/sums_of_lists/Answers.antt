@@ -1,0 +1,17 @@
+use Rattle.np_frac.proofs.Sums.{total_zero, total-+ᵣ, *ᵣ-total, total_same, total_at_most}
+use Rattle.np_frac.proofs.laws.sums_of_lists.Goals as goal
+
+pub returns-clause-zero : goal.returns-clause-zero
+returns-clause-zero g c = total_zero
+
+pub returns-clause-split : goal.returns-clause-split
+returns-clause-split g c = total-+ᵣ
+
+pub returns-clause-factor : goal.returns-clause-factor
+returns-clause-factor g c = *ᵣ-total
+
+pub returns-clause-same : goal.returns-clause-same
+returns-clause-same g c = total_same
+
+pub returns-clause-at_most : goal.returns-clause-at_most
+returns-clause-at_most g c = total_at_most

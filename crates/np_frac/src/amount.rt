@@ -1,0 +1,93 @@
+//! The amounts of network texts.
+
+ghost use Rattle.std.specs.Prelude.{◌≡◌, ◌<◌, ◌^◌, IfSome, IsTrue};
+ghost use Rattle.std.specs.Option.{SomeIff};
+ghost use Rattle.np_frac.specs.Amount.{IsAmount, amount_of, IsAmountEnd, amount_upper, amount_lower, is_amount};
+
+use crate::digits::{read_number, split_at_mark, with_sign, without_minus};
+use crate::frac::Frac;
+
+/// The upper and the lower number of an amount, from its whole number and what stands behind that.
+fn amount_parts(whole: u64, end: &[u8]) -> Option<(u128, u128)>
+    requires { whole < 10 ^ 18 }
+    ensures value { SomeIff result (IsAmountEnd end.now) (amount_upper whole end.now, amount_lower end.now) }
+    ensures upper_fits { IfSome result (λ parts. parts.0 < 2 ^ 127) }
+    ensures lower_fits { IfSome result (λ parts. parts.1 < 2 ^ 127) }
+    ensures some { IfSome result (λ parts. 0 < parts.1) }
+{
+    let Some((mark, digits)) = end.split_first() else {
+        return Some((u128::from(whole), 1));
+    };
+    if *mark == b'.' {
+        let decimals = read_number(digits, 9)?;
+        let scale = 10u64.pow(digits.len() as u32);
+        let upper = u128::from(whole) * u128::from(scale) + u128::from(decimals);
+        return Some((upper, u128::from(scale)));
+    }
+    match read_number(digits, 19) {
+        Some(lower) if lower != 0 => Some((u128::from(whole), u128::from(lower))),
+        _ => None,
+    }
+}
+
+/// The value of the text of an amount: an optional `-`, 1 to 18 digits, and then nothing, or `.` and 1 to 9 digits, or
+/// `/` and 1 to 19 digits that are not all zero. Leading zeros are allowed. `None` for all other bytes.
+pub fn read_amount(bytes: &[u8]) -> Option<Frac>
+    ensures value { SomeIff result (IsAmount bytes.now) (amount_of bytes.now) }
+    ensures amount { IfSome result (λ f. IsTrue (is_amount f)) }
+{
+    let (whole, end) = split_at_mark(without_minus(bytes));
+    let (upper, lower) = amount_parts(read_number(whole, 18)?, end)?;
+    Some(Frac::from_parts(with_sign(bytes, upper), lower))
+}
+
+#[cfg(test)]
+mod tests {
+    use super::*;
+    use std::test::Fail;
+
+    #[test]
+    fn amounts(rt: HostRuntime) -> Result<(), Fail> {
+        let texts: [(&str, i128, i128); 8] = [
+            ("12.50", 25, 2),
+            ("-0", 0, 1),
+            ("7/21", 1, 3),
+            ("-0.000000001", -1, 1_000_000_000),
+            ("000000000000000012", 12, 1),
+            ("999999999999999999", 999_999_999_999_999_999, 1),
+            ("-1/9999999999999999999", -1, 9_999_999_999_999_999_999),
+            (
+                "123456789012345678.123456789",
+                123_456_789_012_345_678_123_456_789,
+                1_000_000_000,
+            ),
+        ];
+        for (text, num, den) in texts {
+            let value = read_amount(text.as_bytes()).ok_or("not an amount")?;
+            assert!(rt; Some(value) == Frac::new(num, den));
+        }
+        Ok(())
+    }
+
+    #[test]
+    fn refused(rt: HostRuntime) -> Result<(), Fail> {
+        let texts: [&str; 12] = [
+            "",
+            "-",
+            "1.",
+            ".5",
+            "+1",
+            "1/0",
+            "1/",
+            "1.2/3",
+            "1.0000000000",
+            "0000000000000000001",
+            "1/00000000000000000001",
+            "1e3",
+        ];
+        for text in texts {
+            assert!(rt; read_amount(text.as_bytes()).is_none());
+        }
+        Ok(())
+    }
+}

@@ -1,0 +1,3 @@
+pub mod KnownFacts
+pub mod ListFacts
+pub mod Turns

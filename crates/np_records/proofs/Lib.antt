@@ -1,0 +1,5 @@
+pub mod Scan
+pub mod ReadingFacts
+pub mod FieldFacts
+pub mod TextFacts
+pub mod NameFacts
