@@ -1,0 +1,5 @@
+pub mod Fields
+pub mod Split
+pub mod NetworkForm
+pub mod PlanForm
+pub mod Reads

@@ -1,0 +1,5 @@
+//! The commands.
+#![tactic(auto)]
+
+mod fields;
+mod stop;
