@@ -29,19 +29,28 @@ pub record IsInside (k : ℕ) (rows : List (List (List ℕ))) (d : List (List �
   pub before : take k (up_to_end rows) ≡ take k rows
   pub here : get_or (up_to_end rows) k d ≡ get_or rows k d
 
+first_inside : (r : List (List ℕ)) (rows : List (List (List ℕ))) (d : List (List ℕ)) → is_end r ≡ false → IsInside zero (r ∷ rows) d
+first_inside r rows d e = record {
+  within = rw e (omega arith);
+  before = refl;
+  here = rw e refl;
+}
+
+later_inside : (k : ℕ) (r : List (List ℕ)) (rows : List (List (List ℕ))) (d : List (List ℕ)) → is_end r ≡ false → IsInside k rows d → IsInside (suc k) (r ∷ rows) d
+later_inside k r rows d e rest =
+    let long = rest.within in
+    record {
+      within = rw e (omega arith);
+      before = rw e (ap (λ (rs : List (List (List ℕ))). r ∷ rs) rest.before);
+      here = rw e rest.here;
+    }
+
 pub inside : (k : ℕ) (rows : List (List (List ℕ))) (d : List (List ℕ)) → list_any is_end (take k rows) ≡ false → k < length rows → is_end (get_or rows k d) ≡ false → IsInside k rows d
 inside k [] d none h here = absurd (omega arith)
-inside zero (r ∷ rows) d none h here = rw here (record { within = omega arith; before = refl; here = refl })
+inside zero (r ∷ rows) d none h here = first_inside r rows d here
 inside (suc k) (r ∷ rows) d none h here = elim (cases_Bool (is_end r)) [
   | inl t ↦ absurd (cc (rw t at none))
-  | inr f ↦
-      let rest = inside k rows d (rw f at none) (omega arith) here in
-      let long = rest.within in
-      record {
-        within = rw f (omega arith);
-        before = rw f (ap (λ (rs : List (List (List ℕ))). r ∷ rs) rest.before);
-        here = rw f rest.here;
-      }
+  | inr f ↦ later_inside k r rows d f (inside k rows d (rw f at none) (omega arith) here)
 ]
 
 -- no `end` at all
