@@ -10,4 +10,4 @@ mod reduced;
 mod walk;
 
 pub use answer::{CheckRefusal, Checked, Clause};
-pub use walk::check;
+pub use walk::{check, one_arc_each};

@@ -6,9 +6,12 @@ ghost use Rattle.np_model.specs.Valid.{IsSound};
 ghost use Rattle.cert_checker.specs.Sums.{plain_refusal};
 ghost use Rattle.np_model.specs.declared.plan.Verdict.TheVariants as verdict;
 ghost use Rattle.np_model.specs.Fits.{PlanFits};
-ghost use Rattle.cert_checker.specs.Walk.{walk, passes_unless, UnlessMemory};
+ghost use Rattle.cert_checker.specs.Walk.{walk, amount_of, passes_unless, UnlessMemory};
+ghost use Rattle.cert_checker.specs.declared.answer.Checked.TheVariants as checked;
 ghost use Rattle.cert_checker.specs.Proves.{Proves};
 ghost use Rattle.cert_checker.specs.Plain.{IsPlain, IsPlainFlow};
+ghost use Rattle.np_model.specs.Schemes.{staged};
+ghost use Rattle.np_model.specs.declared.scheme.Scheme.{Scheme as TheScheme};
 
 use crate::answer::{CheckRefusal, Checked};
 use crate::balance::check_balance;
@@ -30,6 +33,7 @@ pub fn check(alloc: Global, scheme: &Scheme, plan: &Plan) -> Result<Checked, Che
     requires optimal { plan.now.verdict ≡ verdict.Optimal }
     requires fits { PlanFits scheme.now plan.now }
     ensures walk { UnlessMemory result (walk scheme.now plan.now) }
+    ensures optimal { IfOk result (λ answer. answer ≡ checked.Optimal (amount_of plan.now)) }
     ensures proves { IfOk result (Proves scheme.now plan.now) }
 {
     laws::reduced_costs();
@@ -46,6 +50,11 @@ pub fn check(alloc: Global, scheme: &Scheme, plan: &Plan) -> Result<Checked, Che
     )?;
     Ok(Checked::Optimal(cost))
 }
+
+/// A scheme with one period and no hold has a staged arc for each of its flows.
+pub fn one_arc_each()
+    ensures { (scheme : TheScheme) → IsPlain scheme → length (staged scheme) ≡ length scheme.flows }
+{}
 
 // The walk over the lists of a plain scheme and of a plan of it.
 fn check_lists(

@@ -3,3 +3,7 @@ pub mod Split
 pub mod NetworkForm
 pub mod PlanForm
 pub mod Reads
+pub mod Texts
+pub mod Words
+pub mod Answers
+pub mod Endings

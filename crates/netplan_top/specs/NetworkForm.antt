@@ -106,14 +106,14 @@ place_in names name = unwrap_or (place_of names name) 0
 abbrev pub flow_in : List (List ℕ) → List (List ℕ) → Option Flow
 flow_in nodes r =
     if is_kind r (codes "arc") then
-      Some (record {
-        name = field_of r 1;
-        kind = Link (place_in nodes (field_of r 2)) (place_in nodes (field_of r 3)) (amount_of (field_of r 4));
-        lower = amount_of (field_of r 5);
-        upper = bound_of (field_of r 6);
-        cost = amount_of (field_of r 7);
-        bands = [];
-      })
+    Some (record {
+      name = field_of r 1;
+      kind = Link (place_in nodes (field_of r 2)) (place_in nodes (field_of r 3)) (amount_of (field_of r 4));
+      lower = amount_of (field_of r 5);
+      upper = bound_of (field_of r 6);
+      cost = amount_of (field_of r 7);
+      bands = [];
+    })
     else None
 
 -- the supply of each node: the last one that is given, and 0 where none is

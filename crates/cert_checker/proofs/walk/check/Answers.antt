@@ -1,6 +1,7 @@
 use Rattle.std.proofs.Common.{◌∙◌, ap, unwrap_or, length}
 use Rattle.std.proofs.lemmas.Result.{err_from_is_err_and}
 use Rattle.cert_checker.proofs.Whole.{optimal_fits, flows_each, over_lists, refused, passed, accepted, accepted_proves}
+use Rattle.cert_checker.specs.declared.answer.Checked.TheVariants as checked
 use Rattle.cert_checker.proofs.walk.check.Goals as goal
 
 pub check_lists-requires-clause-long : goal.check_lists-requires-clause-long
@@ -34,3 +35,8 @@ returns-clause-proves c =
     (passed c.args.scheme.now c.args.plan.now c.in_ok-check_lists.field-0 c.check_lists.result c.requires.plain
     (over_lists c.args.scheme.now c.args.plan.now _ _ _ _ _ _ c.check_lists.result (ap length c.as_slice.ensures) c.as_slice-2.ensures c.as_slice-3.ensures c.as_slice-4.ensures c.as_slice-5.ensures cost c.check_lists.ensures)
     c.in_ok-check_lists.was))
+
+pub returns-clause-optimal : goal.returns-clause-optimal
+returns-clause-optimal c =
+    let cost = c.unwrap_or-cost.ensures ∙ ap (λ zero. unwrap_or c.args.plan.now.amount zero) c.whole.ensures in
+    ap checked.Optimal cost

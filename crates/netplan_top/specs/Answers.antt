@@ -1,0 +1,129 @@
+-- What the program answers, with the cause of each answer.
+use Rattle.std.specs.Prelude.{◌≡◌, ℕ, ◌+◌, ◌<◌, ◌≤◌, ◌⊎◌, Option, Result, Ok, Err, List, length, codes, take}
+use Rattle.std.specs.Io.KnownBytes.{prepend_known, append_known, IsAtEnd}
+use Rattle.np_frac.specs.Ratio.{Ratio}
+use Rattle.np_frac.specs.declared.frac.Past.{Past}
+use Rattle.np_io.specs.Faults.{Rose}
+use Rattle.np_io.specs.Input.{TookExactly}
+use Rattle.np_model.specs.declared.plan.CheckRow.{CheckRow}
+use Rattle.np_model.specs.declared.plan.Plan.{Plan}
+use Rattle.np_model.specs.declared.scheme.Scheme.{Scheme}
+use Rattle.cert_checker.specs.Walk.{walk}
+use Rattle.cert_checker.specs.Proves.{ProvesOptimal}
+use Rattle.cert_checker.specs.declared.answer.Clause.{Clause}
+use Rattle.cert_checker.specs.declared.answer.Checked.TheVariants as checked
+use Rattle.cert_checker.specs.declared.answer.CheckRefusal.{CheckRefusal}
+use Rattle.cert_checker.specs.declared.answer.CheckRefusal.TheVariants as refusal
+use Rattle.netplan_top.specs.Reads.{IsInForm, Reads}
+use Rattle.netplan_top.specs.Texts.{refused_text, check_text, accepted_line, rejected_line, past_line}
+
+-- the most bytes of an input
+abbrev pub longest : ℕ
+longest = 16777216
+
+-- ---- what is said of a scheme and a plan, and the text that says it
+
+-- the walk over the plan leaves nothing: no feasible list of ratios costs less, and the text prints that cost
+pub record Accepts (scheme : Scheme) (plan : Plan) (text : List ℕ) : Type 0 where
+  pub cost : Ratio
+  pub walked : walk scheme plan ≡ Ok (checked.Optimal cost)
+  pub proved : ProvesOptimal scheme plan cost
+  pub text_is : text ≡ check_text (accepted_line cost)
+
+-- this clause is the first thing that fails in the walk
+pub record Rejects (scheme : Scheme) (plan : Plan) (text : List ℕ) : Type 0 where
+  pub clause : Clause
+  pub name : Option ℕ
+  pub period : ℕ
+  pub walked : walk scheme plan ≡ Err (refusal.Reject clause name period)
+  pub text_is : text ≡ check_text (rejected_line scheme clause name period)
+
+-- this operation is the first thing that passes in the walk
+pub record Passes (scheme : Scheme) (plan : Plan) (text : List ℕ) : Type 0 where
+  pub row : CheckRow
+  pub past : Past
+  pub walked : walk scheme plan ≡ Err (refusal.Past row past)
+  pub text_is : text ≡ check_text (past_line row past)
+
+-- ---- what is said of an input
+
+-- the input stands for a scheme and a plan, of which the text says this
+pub record Says (claim : Scheme → Plan → List ℕ → Type 0) (input : List ℕ) (text : List ℕ) : Type 0 where
+  pub scheme : Scheme
+  pub plan : Plan
+  pub reads : Reads input scheme plan
+  pub says : claim scheme plan text
+
+-- the input is outside the form that is taken so far
+pub record IsLater (input : List ℕ) (text : List ℕ) : Type 0 where
+  pub outside : ¬ (IsInForm input)
+  pub text_is : text ≡ refused_text (codes "Later")
+
+-- the text is what is said of the input with this status
+pub record IsAnswer (input : List ℕ) (status : ℕ) (text : List ℕ) : Type 0 where
+  pub accepts : status ≡ 0 → Says Accepts input text
+  pub passes : status ≡ 4 → Says Passes input text
+  pub refuses : status ≡ 5 → IsLater input text
+  pub rejects : status ≡ 10 → Says Rejects input text
+  pub known : (status ≡ 0) ⊎ (status ≡ 4) ⊎ (status ≡ 5) ⊎ (status ≡ 10)
+
+-- ---- what was read, and what was written
+
+-- these bytes are the whole input, read to its end
+pub record IsWholeInput (before after : Option (List ℕ)) (input : List ℕ) : Type 0 where
+  pub taken : before ≡ prepend_known input after
+  pub ended : IsAtEnd after
+  pub short : length input ≤ longest
+
+-- more bytes came than an input may have, and reading stopped there
+pub record IsTooLong (before after : Option (List ℕ)) (text : List ℕ) : Type 0 where
+  pub taken : TookExactly (longest + 1) before after
+  pub text_is : text ≡ refused_text (codes "TooLong")
+
+-- all of the text was written
+abbrev pub Wrote : Option (List ℕ) → Option (List ℕ) → List ℕ → Type 0
+Wrote before after text = after ≡ append_known before text
+
+-- a first part of the text was written
+abbrev pub WrotePart : Option (List ℕ) → Option (List ℕ) → List ℕ → Type 0
+WrotePart before after text = (count : ℕ) × (count ≤ length text) × (after ≡ append_known before (take count text))
+
+-- the whole input was read, this is said of it, and all of the text that says it was written
+pub record Gives (claim : List ℕ → List ℕ → Type 0) (left left' written written' : Option (List ℕ)) : Type 0 where
+  pub input : List ℕ
+  pub text : List ℕ
+  pub whole : IsWholeInput left left' input
+  pub says : claim input text
+  pub wrote : Wrote written written' text
+
+-- reading stopped past the limit, and all of the text that says so was written
+pub record GivesTooLong (left left' written written' : Option (List ℕ)) : Type 0 where
+  pub text : List ℕ
+  pub too_long : IsTooLong left left' text
+  pub wrote : Wrote written written' text
+
+-- a text that some status allows
+abbrev pub IsSomeText : Option (List ℕ) → Option (List ℕ) → List ℕ → Type 0
+IsSomeText left left' text = ((input : List ℕ) × (status : ℕ) × IsWholeInput left left' input × IsAnswer input status text) ⊎ IsTooLong left left' text
+
+-- the sink failed: its count rose, and a first part of a text was written of which it was not sure
+pub record IsCut (allowed : List ℕ → Type 0) (faults faults' sure : ℕ) (written written' : Option (List ℕ)) : Type 0 where
+  pub text : List ℕ
+  pub is_allowed : allowed text
+  pub rose : Rose faults faults'
+  pub part : WrotePart written written' text
+  pub unsure : sure < length text
+
+-- ---- the same of a scheme and a plan that were read
+
+-- why the checker did not accept, with the status and the text of it
+abbrev pub IsRefused : Scheme → CheckRefusal → ℕ → List ℕ → Type 0
+IsRefused scheme (refusal.Reject clause name period) status text = (status ≡ 10) × (text ≡ check_text (rejected_line scheme clause name period))
+IsRefused scheme (refusal.Past row past) status text = (status ≡ 4) × (text ≡ check_text (past_line row past))
+IsRefused scheme refusal.Memory status text = ⊥
+
+pub record IsJudged (scheme : Scheme) (plan : Plan) (status : ℕ) (text : List ℕ) : Type 0 where
+  pub accepts : status ≡ 0 → Accepts scheme plan text
+  pub passes : status ≡ 4 → Passes scheme plan text
+  pub rejects : status ≡ 10 → Rejects scheme plan text
+  pub known : (status ≡ 0) ⊎ (status ≡ 4) ⊎ (status ≡ 10)

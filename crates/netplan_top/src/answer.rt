@@ -1,0 +1,73 @@
+//! What is said of an input.
+
+ghost use Rattle.std.specs.Prelude.{◌≡◌, IfOk};
+ghost use Rattle.np_model.specs.declared.plan.Verdict.TheVariants as verdict;
+ghost use Rattle.np_model.specs.Fits.{PlanFits};
+ghost use Rattle.cert_checker.specs.Plain.{IsPlain};
+ghost use Rattle.netplan_top.specs.Answers.{IsAnswer, IsJudged, IsRefused};
+
+use crate::input::read_input;
+use crate::stop::Stop;
+use crate::texts::{accepted, passed, refusal, rejected};
+use cert_checker::{CheckRefusal, check};
+use np_frac::{Frac, Memory};
+use np_model::{Plan, Scheme};
+use std::alloc::Global;
+
+/// A status, and the text that goes with it.
+#[derive(Drop)]
+pub(crate) struct Answer {
+    pub status: u8,
+    pub text: Vec<u8>,
+}
+
+// What is said where the checker did not accept.
+fn refused(alloc: Global, scheme: &Scheme, why: CheckRefusal) -> Result<Answer, Memory>
+    ensures { IfOk result (λ answer. IsRefused scheme.now why answer.status answer.text.items) }
+{
+    match why {
+        CheckRefusal::Reject {
+            clause,
+            name,
+            period,
+        } => {
+            let text = rejected(alloc, scheme, clause, name, period)?;
+            Ok(Answer { status: 10, text })
+        }
+        CheckRefusal::Past { row, past } => {
+            let text = passed(alloc, row, past)?;
+            Ok(Answer { status: 4, text })
+        }
+        CheckRefusal::Memory => Err(Memory),
+    }
+}
+
+// What the checker says of a plan.
+fn judged(alloc: Global, scheme: &Scheme, plan: &Plan) -> Result<Answer, Memory>
+    requires plain { IsPlain scheme.now }
+    requires optimal { plan.now.verdict ≡ verdict.Optimal }
+    requires fits { PlanFits scheme.now plan.now }
+    ensures { IfOk result (λ answer. IsJudged scheme.now plan.now answer.status answer.text.items) }
+{
+    match check(alloc, scheme, plan) {
+        Ok(_) => {
+            let text = accepted(alloc, plan.amount.unwrap_or(Frac::whole(0)))?;
+            Ok(Answer { status: 0, text })
+        }
+        Err(why) => refused(alloc, scheme, why),
+    }
+}
+
+/// What is said of an input.
+pub(crate) fn answer_of(alloc: Global, bytes: &[u8]) -> Result<Answer, Memory>
+    ensures { IfOk result (λ answer. IsAnswer bytes.now answer.status answer.text.items) }
+{
+    match read_input(alloc, bytes) {
+        Ok(input) => judged(alloc, &input.scheme, &input.plan),
+        Err(Stop::Outside) => {
+            let text = refusal(alloc, b"Later")?;
+            Ok(Answer { status: 5, text })
+        }
+        Err(Stop::Memory) => Err(Memory),
+    }
+}

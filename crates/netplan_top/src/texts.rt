@@ -1,0 +1,208 @@
+//! The texts that the program prints.
+
+ghost use Rattle.std.specs.Prelude.{◌≡◌, ◌∷◌, [], IfOk, codes, map, slice_index_or};
+ghost use Rattle.np_frac.specs.Text.{printed};
+ghost use Rattle.netplan_top.specs.Texts.{framed_text, refused_text, check_text, accepted_line, clause_word, name_at, rejected_line, row_word, op_word, past_line};
+
+use cert_checker::Clause;
+use itoa::Buffer;
+use np_frac::{Frac, Memory, Op, Past, write_frac};
+use np_model::{CheckRow, Name, Scheme};
+use np_records::Text;
+use std::alloc::Global;
+
+/// The usage text: the commands that there are.
+pub const USAGE: &[u8] = b"netplan-usage,1\nusage,check\nend\n";
+
+// A text with this word at its head, one line, and `end`.
+#[tactic(auto, unfolding(crate::specs::Texts::framed_text))]
+fn framed(alloc: Global, kind: &[u8], line: &[&[u8]]) -> Result<Vec<u8>, Memory>
+    ensures { IfOk result (λ text. text.items ≡ framed_text kind.now (map (λ field. field.now) line.now)) }
+{
+    let mut text = Text::new(alloc);
+    text.push(&[kind, b"1".as_slice()])?;
+    text.push(line)?;
+    text.push(&[b"end".as_slice()])?;
+    text.into_bytes()
+}
+
+/// The text that refuses an input as a whole.
+pub fn refusal(alloc: Global, code: &[u8]) -> Result<Vec<u8>, Memory>
+    ensures { IfOk result (λ text. text.items ≡ refused_text code.now) }
+{
+    framed(
+        alloc,
+        b"netplan-refused".as_slice(),
+        &[b"fault".as_slice(), b"0".as_slice(), code],
+    )
+}
+
+// The printed form of a fraction.
+fn fraction(alloc: Global, value: Frac) -> Result<Vec<u8>, Memory>
+    ensures { IfOk result (λ bytes. bytes.items ≡ printed value) }
+{
+    let mut bytes = Vec::new(alloc);
+    write_frac(value, &mut bytes)?;
+    Ok(bytes)
+}
+
+/// The text that accepts an optimal plan.
+pub fn accepted(alloc: Global, cost: Frac) -> Result<Vec<u8>, Memory>
+    ensures { IfOk result (λ text. text.items ≡ check_text (accepted_line cost)) }
+{
+    let cost = fraction(alloc, cost)?;
+    framed(
+        alloc,
+        b"netplan-check".as_slice(),
+        &[
+            b"accepted".as_slice(),
+            b"optimal".as_slice(),
+            cost.as_slice(),
+        ],
+    )
+}
+
+#[tactic(auto, unfolding(crate::specs::Texts::clause_word))]
+fn word_of_clause(clause: Clause) -> &'static [u8]
+    ensures { result.now ≡ clause_word clause }
+{
+    match clause {
+        Clause::Balance => b"balance",
+        Clause::Bound => b"bound",
+        Clause::Reduced => b"reduced",
+        Clause::Cost => b"cost",
+        Clause::Upper => b"upper",
+        Clause::Gap => b"gap",
+        Clause::RaySign => b"ray-sign",
+        Clause::RayUpper => b"ray-upper",
+        Clause::RayBalance => b"ray-balance",
+        Clause::RayCost => b"ray-cost",
+        Clause::Uncertified => b"uncertified",
+    }
+}
+
+// The name of a node.
+fn node_name(scheme: &Scheme, index: usize) -> &[u8]
+    ensures { result.now ≡ slice_index_or scheme.now.nodes index [] }
+{
+    let names: &[Name] = scheme.nodes.as_slice();
+    if index < names.len() {
+        names[index].as_slice()
+    } else {
+        b""
+    }
+}
+
+// The name of a flow.
+fn flow_name(scheme: &Scheme, index: usize) -> &[u8]
+    ensures { result.now ≡ slice_index_or (map (λ flow. flow.name) scheme.now.flows) index [] }
+{
+    let flows = scheme.flows.as_slice();
+    if index < flows.len() {
+        flows[index].name.as_slice()
+    } else {
+        b""
+    }
+}
+
+// The name at a clause's place.
+#[tactic(auto, unfolding(crate::specs::Texts::name_at))]
+fn name_of(scheme: &Scheme, clause: Clause, index: usize) -> &[u8]
+    ensures { result.now ≡ name_at scheme.now clause index }
+{
+    match clause {
+        Clause::Balance | Clause::RayBalance => node_name(scheme, index),
+        _ => flow_name(scheme, index),
+    }
+}
+
+// The line of a clause with a place.
+fn rejected_at<'a>(
+    alloc: Global,
+    word: &'a [u8],
+    name: &'a [u8],
+    period: &'a [u8],
+) -> Result<Vec<u8>, Memory>
+    ensures { IfOk result (λ text. text.items ≡ check_text (codes "rejected" ∷ word.now ∷ name.now ∷ period.now ∷ [])) }
+{
+    framed(
+        alloc,
+        b"netplan-check".as_slice(),
+        &[b"rejected".as_slice(), word, name, period],
+    )
+}
+
+/// The text that rejects a plan at the clause that fails first.
+pub fn rejected(
+    alloc: Global,
+    scheme: &Scheme,
+    clause: Clause,
+    name: Option<u32>,
+    period: u32,
+) -> Result<Vec<u8>, Memory>
+    ensures { IfOk result (λ text. text.items ≡ check_text (rejected_line scheme.now clause name period)) }
+{
+    let word = word_of_clause(clause);
+    match name {
+        None => framed(
+            alloc,
+            b"netplan-check".as_slice(),
+            &[b"rejected".as_slice(), word],
+        ),
+        Some(index) => {
+            let mut digits = Buffer::new();
+            rejected_at(
+                alloc,
+                word,
+                name_of(scheme, clause, index as usize),
+                digits.format(period).as_bytes(),
+            )
+        }
+    }
+}
+
+#[tactic(auto, unfolding(crate::specs::Texts::row_word))]
+fn word_of_row(row: CheckRow) -> &'static [u8]
+    ensures { result.now ≡ row_word row }
+{
+    match row {
+        CheckRow::C0 => b"C0",
+        CheckRow::C1 => b"C1",
+        CheckRow::C2 => b"C2",
+        CheckRow::C3 => b"C3",
+        CheckRow::C4 => b"C4",
+        CheckRow::C5 => b"C5",
+        CheckRow::C6 => b"C6",
+    }
+}
+
+#[tactic(auto, unfolding(crate::specs::Texts::op_word))]
+fn word_of_op(op: Op) -> &'static [u8]
+    ensures { result.now ≡ op_word op }
+{
+    match op {
+        Op::Plus => b"plus",
+        Op::Minus => b"minus",
+        Op::Times => b"times",
+        Op::Over => b"over",
+    }
+}
+
+/// The text that tells the operation that passes first.
+pub fn passed(alloc: Global, row: CheckRow, past: Past) -> Result<Vec<u8>, Memory>
+    ensures { IfOk result (λ text. text.items ≡ check_text (past_line row past)) }
+{
+    let left = fraction(alloc, past.left)?;
+    let right = fraction(alloc, past.right)?;
+    framed(
+        alloc,
+        b"netplan-check".as_slice(),
+        &[
+            b"past".as_slice(),
+            word_of_row(row),
+            word_of_op(past.op),
+            left.as_slice(),
+            right.as_slice(),
+        ],
+    )
+}
