@@ -169,6 +169,13 @@ impl Frac {
         let left = product_within(self.num, left_by as i128)?;
         let right = product_within(other.num, right_by as i128)?;
         let sum = sum_within(left, right)?;
+        if shared == 1 {
+            // Over coprime denominators the sum is in lowest terms.
+            return Some(Frac {
+                num: sum,
+                den: common,
+            });
+        }
         let (num, den) = reduced(sum, common);
         Some(Frac { num, den })
     }
