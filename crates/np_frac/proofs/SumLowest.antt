@@ -1,12 +1,12 @@
 -- Over coprime denominators a sum is in lowest terms at once.
-use Rattle.std.specs.Prelude.{◌≡◌, ℕ, ◌*◌, ◌/◌, ◌<◌, ℤ, pos, neg_ℤ, ◌+ℤ◌, ◌*ℤ◌, unsigned_abs}
-use Rattle.std.proofs.Common.{arith, refl, ap, sym, subst, ◌∙◌}
+use Rattle.std.specs.Prelude.{◌≡◌, ℕ, ◌*◌, ◌/◌, ℤ, pos, neg_ℤ, ◌+ℤ◌, ◌*ℤ◌, unsigned_abs}
+use Rattle.std.proofs.Common.{arith, ap, sym, subst, ◌∙◌}
 use Rattle.std.specs.Int.{IsGcd, ◌∣◌}
 use Rattle.std.specs.Int.RustNames.{int_div}
 use Rattle.std.proofs.Math.Nat.{one-dvd, mul_comm, mul-pos, dvd-mul_left, dvd-mul_right, div-one}
 use Rattle.std.proofs.lemmas.Int.{ints, unsigned_abs-mul}
 use Rattle.std.proofs.lemmas.Nat.Gcd.{dvd_refl, dvd_trans, IsGcd-swap}
-use borrow.Author.Differences.{up, down, same_in, neg_is}
+use borrow.Author.Differences.{same_in, neg_is}
 use Rattle.np_frac.specs.Ratio.{Ratio, IsLowest}
 use Rattle.np_frac.specs.Coprime.{dvd_of_coprime, coprime-divisors, coprime-product}
 use Rattle.np_frac.specs.Signs.{quot-exact, up-*, down-*, *ℤ-+ℤ}
