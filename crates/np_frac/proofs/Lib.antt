@@ -12,3 +12,4 @@ pub mod ReadsBack
 pub mod Facts
 pub mod Wholes
 pub mod AmountTexts
+pub mod SumLowest

@@ -169,6 +169,13 @@ impl Frac {
         let left = product_within(self.num, left_by as i128)?;
         let right = product_within(other.num, right_by as i128)?;
         let sum = sum_within(left, right)?;
+        if shared == 1 {
+            // Over coprime denominators the sum is in lowest terms.
+            return Some(Frac {
+                num: sum,
+                den: common,
+            });
+        }
         let (num, den) = reduced(sum, common);
         Some(Frac { num, den })
     }
@@ -304,6 +311,14 @@ mod tests {
         Ok(Frac::new(num, den).ok_or("not a fraction")?)
     }
 
+    /// The quotient, where the divisor is not 0 and it fits.
+    fn quotient(left: Frac, right: Frac) -> Option<Frac> {
+        if right.num() == 0 {
+            return None;
+        }
+        left.over(right).ok()
+    }
+
     #[test]
     fn made(rt: HostRuntime) -> Result<(), Fail> {
         assert!(rt; Frac::new(4, -2).is_none());
@@ -324,7 +339,8 @@ mod tests {
         assert!(rt; half.plus(third) == Ok(frac(5, 6)?));
         assert!(rt; half.minus(third) == Ok(frac(1, 6)?));
         assert!(rt; half.times(third) == Ok(frac(1, 6)?));
-        assert!(rt; half.over(third.negated()) == Ok(frac(-3, 2)?));
+        assert!(rt; quotient(half, third.negated()) == Some(frac(-3, 2)?));
+        assert!(rt; quotient(half, Frac::whole(0)).is_none());
         assert!(rt; Frac::whole(7).plus(Frac::whole(-9)) == Ok(Frac::whole(-2)));
         assert!(rt; Frac::whole(7).times(Frac::whole(-9)) == Ok(Frac::whole(-63)));
         assert!(rt; third.is_below(half) && !half.is_below(third));
@@ -348,7 +364,8 @@ mod tests {
         assert!(rt; most.times(half) == Ok(half_most));
         assert!(rt; half_most.times(frac(2, MOST)?) == Ok(one));
         assert!(rt; most.times(Frac::whole(2)).is_err());
-        assert!(rt; half_most.over(most) == Ok(half));
+        assert!(rt; quotient(half_most, most) == Some(half));
+        assert!(rt; quotient(most, half).is_none());
         // The cross products need 254 bits.
         let (low, high) = (frac(MOST, MOST - 1)?, frac(MOST - 1, MOST - 2)?);
         assert!(rt; low.compare(high) == Ordering::Less);

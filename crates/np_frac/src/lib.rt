@@ -1,4 +1,7 @@
-//! Exact fractions within 128 bits.
+//! Exact fractions within 128 bits, their texts and their laws.
+//!
+//! A [`Frac`] is a ratio in lowest terms whose parts are at most 2^127 - 1 in size. Each operation answers the exact
+//! ratio, or [`Past`] with its operands where that does not fit. Nothing but [`write_frac`] takes memory.
 #![tactic(auto)]
 
 mod amount;

@@ -7,6 +7,7 @@ use Rattle.np_frac.specs.Signs.{cross_trans}
 use Rattle.np_frac.proofs.Fractions.{gcd-some, reduced-same, cast_quotient, quotient-some}
 use Rattle.np_frac.proofs.Wholes.{whole_by_den}
 use Rattle.np_frac.proofs.SumParts.{SumParts, sum-common, sum-left, sum-right, HasSum-parts, sum-parts-same}
+use Rattle.np_frac.proofs.SumLowest.{sum_lowest}
 use Rattle.np_frac.proofs.frac.Frac.sum_of.Goals as goal
 
 pub returns-in_err-common : goal.returns-in_err-common
@@ -74,6 +75,47 @@ returns c =
     rw (← c.self.view_is, ← c.other.view_is) (
       HasSum-parts a b _ _ _ _ s (rw kc.1 kc.0) (rw kl.1 kl.0) (rw kr.1 kr.0) ks.0,
       sum_is a b _ (simp to_z-of_z (cross_trans _ _ _ _ _ _ some (reduced-same _ _ _ _ r) (sum-parts-same a b _ _ _ _ s))),
+    )
+
+pub invariant_of-result : goal.invariant_of-result
+invariant_of-result c =
+    let fa : FitsSigned w128 c.self.inside.num = search rules in
+    let fb : FitsSigned w128 c.other.inside.num = search rules in
+    let fl : FitsSigned w128 c.in_ok-left.left = search rules in
+    let fr : FitsSigned w128 c.in_ok-right.right = search rules in
+    let fs : FitsSigned w128 c.in_ok-sum.sum = search rules in
+    let tl = cast_quotient c.other.inside.den c.gcd-shared.result c.other.invariant.den_fits in
+    let tr = cast_quotient c.self.inside.den c.gcd-shared.result c.self.invariant.den_fits in
+    let kc = c.in_ok-common.ensures in
+    let kl = rw tl at (simp to_z-of_z at c.in_ok-left.ensures) in
+    let kr = rw tr at (simp to_z-of_z at c.in_ok-right.ensures) in
+    let ks = simp to_z-of_z at c.in_ok-sum.ensures in
+    let a = made c.self.inside.num c.self.inside.den c.self.inside.lowest in
+    let b = made c.other.inside.num c.other.inside.den c.other.inside.lowest in
+    let s : SumParts a b c.gcd-shared.result c.in_ok-common.common c.in_ok-left.left c.in_ok-right.right =
+    record { is_gcd = c.gcd-shared.ensures; common_is = kc.1; left_is = kl.1; right_is = kr.1 } in
+    (simp to_z-of_z (rw ks.1 (sum_lowest a b _ _ _ _ s c.if-shared-eq1.true)), tt)
+
+pub returns-then-shared-eq1 : goal.returns-then-shared-eq1
+returns-then-shared-eq1 c =
+    let fa : FitsSigned w128 c.self.inside.num = search rules in
+    let fb : FitsSigned w128 c.other.inside.num = search rules in
+    let fl : FitsSigned w128 c.in_ok-left.left = search rules in
+    let fr : FitsSigned w128 c.in_ok-right.right = search rules in
+    let fs : FitsSigned w128 c.in_ok-sum.sum = search rules in
+    let tl = cast_quotient c.other.inside.den c.gcd-shared.result c.other.invariant.den_fits in
+    let tr = cast_quotient c.self.inside.den c.gcd-shared.result c.self.invariant.den_fits in
+    let kc = c.in_ok-common.ensures in
+    let kl = rw tl at (simp to_z-of_z at c.in_ok-left.ensures) in
+    let kr = rw tr at (simp to_z-of_z at c.in_ok-right.ensures) in
+    let ks = simp to_z-of_z at c.in_ok-sum.ensures in
+    let a = made c.self.inside.num c.self.inside.den c.self.inside.lowest in
+    let b = made c.other.inside.num c.other.inside.den c.other.inside.lowest in
+    let s : SumParts a b c.gcd-shared.result c.in_ok-common.common c.in_ok-left.left c.in_ok-right.right =
+    record { is_gcd = c.gcd-shared.ensures; common_is = kc.1; left_is = kl.1; right_is = kr.1 } in
+    rw (← c.self.view_is, ← c.other.view_is) (
+      HasSum-parts a b _ _ _ _ s (rw kc.1 kc.0) (rw kl.1 kl.0) (rw kr.1 kr.0) ks.0,
+      sum_is a b _ (simp to_z-of_z (rw ks.1 (sum-parts-same a b _ _ _ _ s))),
     )
 
 pub nonzero_div-left_by : goal.nonzero_div-left_by
