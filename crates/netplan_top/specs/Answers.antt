@@ -14,6 +14,9 @@ use Rattle.cert_checker.specs.declared.answer.Clause.{Clause}
 use Rattle.cert_checker.specs.declared.answer.Checked.TheVariants as checked
 use Rattle.cert_checker.specs.declared.answer.CheckRefusal.{CheckRefusal}
 use Rattle.cert_checker.specs.declared.answer.CheckRefusal.TheVariants as refusal
+use Rattle.std.specs.declared.string.String.{String}
+use Rattle.std.specs.declared.alloc.Global.{Global}
+use Rattle.netplan_top.specs.Words.{IsCommand, usage_text}
 use Rattle.netplan_top.specs.Reads.{IsInForm, Reads}
 use Rattle.netplan_top.specs.Texts.{refused_text, check_text, accepted_line, rejected_line, past_line}
 
@@ -127,3 +130,13 @@ pub record IsJudged (scheme : Scheme) (plan : Plan) (status : ℕ) (text : List 
   pub passes : status ≡ 4 → Passes scheme plan text
   pub rejects : status ≡ 10 → Rejects scheme plan text
   pub known : (status ≡ 0) ⊎ (status ≡ 4) ⊎ (status ≡ 10)
+
+-- ---- the statuses
+
+abbrev pub IsStatus : ℕ → Type 0
+IsStatus status =
+    (status ≡ 0) ⊎ (status ≡ 4) ⊎ (status ≡ 5) ⊎ (status ≡ 6) ⊎ (status ≡ 7) ⊎ (status ≡ 8) ⊎ (status ≡ 9) ⊎ (status ≡ 10)
+
+-- a text that the words allow, and for a command what was read: the usage text, or one that some status allows
+abbrev pub IsAllowed : List (String Global) → Option (List ℕ) → Option (List ℕ) → List ℕ → Type 0
+IsAllowed words left left' text = ((¬ (IsCommand words)) × (text ≡ usage_text)) ⊎ (IsCommand words × IsSomeText left left' text)

@@ -1,4 +1,4 @@
-//! The commands.
+//! The commands, over any source and any sink.
 #![tactic(auto)]
 
 mod answer;
@@ -7,3 +7,8 @@ mod input;
 mod stop;
 mod texts;
 mod top;
+
+pub use top::run;
+
+#[cfg(test)]
+mod tests;

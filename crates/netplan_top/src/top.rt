@@ -3,7 +3,7 @@
 ghost use Rattle.std.specs.Prelude.{◌≡◌, ◌<◌, ◌↔◌, ◌⊎◌, IsTrue, length};
 ghost use Rattle.np_io.specs.Faults.{Rose};
 ghost use Rattle.netplan_top.specs.Words.{IsCommand, usage_text};
-ghost use Rattle.netplan_top.specs.Answers.{Accepts, Passes, Rejects, IsLater, Says, Gives, GivesTooLong, IsCut, IsSomeText, Wrote};
+ghost use Rattle.netplan_top.specs.Answers.{Accepts, Passes, Rejects, IsLater, Says, Gives, GivesTooLong, IsCut, IsAllowed, IsStatus, Wrote};
 ghost use Rattle.netplan_top.specs.Endings.{IsPrinted, Ending};
 
 use crate::answer::answer_of;
@@ -56,4 +56,54 @@ fn check_input<S: Source, K: Sink>(alloc: Global, source: &mut S, sink: &mut K) 
         Err(ReadRefusal::ReadFault) => 7,
         Err(ReadRefusal::Memory) => 9,
     }
+}
+
+/// Runs the command that the words name over the source and the sink, and answers the exit status.
+///
+/// `check` reads a network text with a plan text behind it, and writes whether the plan is a least-cost plan. The whole
+/// text is made before its first byte is written. The words are looked at first: where they are no command, nothing is
+/// read and no memory is taken.
+///
+/// | status | text | when |
+/// |---|---|---|
+/// | 0 | accepted, with the cost | no feasible plan costs less |
+/// | 4 | the operation | its exact result does not fit a fraction, and nothing before it in the walk fails |
+/// | 5 | refusal | the input has more than 16,777,216 bytes, or is outside the form that is taken so far |
+/// | 6 | usage | the words are no command |
+/// | 7 | nothing | the source failed |
+/// | 8 | a part of a text | the sink failed |
+/// | 9 | nothing | memory ran out |
+/// | 10 | rejected, with the clause | this clause fails, and nothing before it in the walk |
+///
+/// The handle and the gate are for commands that work in threads: `check` uses neither.
+pub fn run<S: Source, K: Sink, G: Gate>(
+    _rt: &(impl Threads + Sync),
+    alloc: Global,
+    words: &[String],
+    source: &mut S,
+    sink: &mut K,
+    _gate: &G,
+) -> u8
+    // The words are no command: nothing is read.
+    ensures no_command { ¬ (IsCommand words.now) → (result ≡ 6) ⊎ (result ≡ 8) }
+    ensures unread { ¬ (IsCommand words.now) → source.new ≡ source.old }
+    ensures usage { result ≡ 6 → (¬ (IsCommand words.now)) × Wrote (K.written sink.old) (K.written sink.new) usage_text }
+
+    // The whole input was read, and the text says this of it.
+    ensures accepted { result ≡ 0 → Gives (Says Accepts) (S.left source.old) (S.left source.new) (K.written sink.old) (K.written sink.new) }
+    ensures passed { result ≡ 4 → Gives (Says Passes) (S.left source.old) (S.left source.new) (K.written sink.old) (K.written sink.new) }
+    ensures rejected { result ≡ 10 → Gives (Says Rejects) (S.left source.old) (S.left source.new) (K.written sink.old) (K.written sink.new) }
+    ensures refused { result ≡ 5 → Gives IsLater (S.left source.old) (S.left source.new) (K.written sink.old) (K.written sink.new)
+        ⊎ GivesTooLong (S.left source.old) (S.left source.new) (K.written sink.old) (K.written sink.new) }
+
+    // The source or the sink failed, or memory ran out.
+    ensures unread_rest { result ≡ 7 → Rose (S.faults source.old) (S.faults source.new) × (K.written sink.new ≡ K.written sink.old) }
+    ensures cut { result ≡ 8 → IsCut (IsAllowed words.now (S.left source.old) (S.left source.new)) (K.faults sink.old) (K.faults sink.new) (K.sure sink.old) (K.written sink.old) (K.written sink.new) }
+    ensures no_memory { result ≡ 9 → IsCommand words.now × (K.written sink.new ≡ K.written sink.old) }
+    ensures known { IsStatus result }
+{
+    if !is_command(words) {
+        return print(sink, USAGE, 6);
+    }
+    check_input(alloc, source, sink)
 }

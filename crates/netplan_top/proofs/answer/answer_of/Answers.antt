@@ -1,0 +1,10 @@
+use Rattle.std.proofs.lemmas.Result.{IfOk-weaker}
+use Rattle.netplan_top.specs.Answers.{IsJudged, IsAnswer}
+use Rattle.netplan_top.specs.declared.answer.Answer.{Answer}
+use Rattle.netplan_top.proofs.AnswerFacts.{answer_judged}
+use Rattle.netplan_top.proofs.answer.answer_of.Goals as goal
+
+pub returns-in-Ok : goal.returns-in-Ok
+returns-in-Ok c =
+    IfOk-weaker c.judged.result (λ (a : Answer). IsJudged c.in-Ok.input.scheme c.in-Ok.input.plan a.status a.text.items) (λ (a : Answer). IsAnswer c.args.bytes.now a.status a.text.items)
+    (λ a judged. answer_judged c.args.bytes.now c.in-Ok.input.scheme c.in-Ok.input.plan a.status a.text.items c.in-Ok.ensures.read judged) c.judged.ensures
