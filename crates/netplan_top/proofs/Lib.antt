@@ -1,1 +1,5 @@
 pub mod Splits
+pub mod NetworkPlaces
+pub mod NetworkRows
+pub mod NetworkSteps
+pub mod NetworkValid
