@@ -3,3 +3,4 @@ pub mod NetworkPlaces
 pub mod NetworkRows
 pub mod NetworkSteps
 pub mod NetworkValid
+pub mod NetworkBody

@@ -64,7 +64,7 @@ absent m ms n e = elim (cases_Bool (bytes_eq n m)) [
   | inr f ↦ (bytes_eq-turned m n f, map-none (place_of ms n) (rw f at e))
 ]
 
-all-push : {X : Type 0} (P : X → Type 0) (xs : List X) (x : X) → AllByRecursion P xs → P x → AllByRecursion P (xs ++ x ∷ [])
+pub all-push : {X : Type 0} (P : X → Type 0) (xs : List X) (x : X) → AllByRecursion P xs → P x → AllByRecursion P (xs ++ x ∷ [])
 all-push P [] x all here = (here, tt)
 all-push P (y ∷ ys) x all here = (all.0, all-push P ys x all.1 here)
 

@@ -4,3 +4,4 @@ pub mod NetworkForm
 pub mod PlanForm
 pub mod Reads
 pub mod NetworkTables
+pub mod NetworkRead

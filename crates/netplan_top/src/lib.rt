@@ -2,4 +2,5 @@
 #![tactic(auto)]
 
 mod fields;
+mod network;
 mod stop;
