@@ -12,7 +12,7 @@ use Rattle.np_records.specs.Records.{field_of}
 use Rattle.np_records.specs.Names.{place_of}
 use Rattle.netplan_top.specs.Split.{is_end, up_to_end}
 use Rattle.netplan_top.specs.NetworkForm.{is_kind, defined_node, defined_arc, node_names, arc_names, IsBody, IsBodyRecord, IsNode, IsSupply, IsArc, given_at, supply_of}
-use Rattle.netplan_top.specs.NetworkTables.{IsTaken, IsNodeTaken, IsArcTaken, Tables, tables_of, supplies, with_record}
+use Rattle.netplan_top.specs.NetworkTables.{IsTaken, IsNodeTaken, IsArcTaken, HasRoom, Tables, tables_of, supplies, with_record}
 use Rattle.netplan_top.specs.NetworkRead.{HasBody, IsBodyRead, AreValid, amounts}
 use Rattle.netplan_top.proofs.NetworkPlaces.{distinct-push, distinct-none, all-push}
 use Rattle.netplan_top.proofs.NetworkRows.{IsFine, fine-kept, fine-from_body, taken-body, by_kind, node-no_arc, supply-no_node, supply-no_arc, arc-no_node}
@@ -220,11 +220,6 @@ so_far-refused rows left t r s f refused h =
     let goes : up_to_end (r ∷ left) ≡ r ∷ up_to_end left = rw f refl in
     let body : up_to_end rows ≡ s.before ++ r ∷ up_to_end left = rw s.whole (end-split s.before (r ∷ left) s.none ∙ rw goes refl) in
     refused (rw s.tables (body-taken s.before r (up_to_end left) (rw body at h.body) (rw body at h.few_nodes) (rw body at h.few_arcs)))
-
--- what a method that takes a record asks of the tables
-pub record HasRoom (t : Tables) : Type 0 where
-  pub one_each : length t.supply ≡ length t.nodes
-  pub few_nodes : length t.nodes ≤ 20000
 
 tables-room : (rows : List (List (List ℕ))) → IsRead rows → HasRoom (tables_of rows)
 unfolding tables_of

@@ -1,6 +1,7 @@
 //! The commands.
 #![tactic(auto)]
 
+mod draft;
 mod fields;
 mod network;
 mod stop;
