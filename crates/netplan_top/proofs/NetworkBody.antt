@@ -3,17 +3,21 @@ use Rattle.std.specs.Prelude.{◌≡◌, ℕ, ◌+◌, ◌<◌, ◌≤◌, ◌||
 use Rattle.std.specs.List.{AllByRecursion, list_any, filter_map, range_with_len}
 use Rattle.std.proofs.Common.{refl, sym, ap, ◌∙◌, inl, inr, arith, append_assoc, add-one, get_or}
 use Rattle.std.proofs.lemmas.Bool.{cases_Bool, cases_eq}
-use Rattle.std.proofs.lemmas.List.{length_push, length-append, length-map, take-append-le, get_or_append_left, take_at, get_or_at, get_or_push, append-nil, drop_at}
+use Rattle.std.proofs.lemmas.List.{length_push, length-append, length-map, take-append-le, get_or_append_left, take_at, get_or_at, get_or_push, append-nil, drop_at, drop-drop}
 use Rattle.std.proofs.lemmas.List.Elements.{filter_map-append}
 use Rattle.std.proofs.lemmas.List.Folds.{list_any-append}
 use Rattle.std.proofs.lemmas.List.FromFn.{length-map-range_with_len}
 use Rattle.np_frac.specs.Ratio.{Ratio, zero_ratio}
 use Rattle.np_records.specs.Records.{field_of}
 use Rattle.np_records.specs.Names.{place_of}
-use Rattle.netplan_top.specs.Split.{is_end, up_to_end}
+use Rattle.netplan_top.specs.Split.{is_end, up_to_end, body_of}
 use Rattle.netplan_top.specs.NetworkForm.{is_kind, defined_node, defined_arc, node_names, arc_names, IsBody, IsBodyRecord, IsNode, IsSupply, IsArc, given_at, supply_of}
 use Rattle.netplan_top.specs.NetworkTables.{IsTaken, IsNodeTaken, IsArcTaken, HasRoom, Tables, tables_of, supplies, with_record}
-use Rattle.netplan_top.specs.NetworkRead.{HasBody, IsBodyRead, AreValid, amounts}
+use Rattle.netplan_top.specs.Reads.{StopsFor}
+use Rattle.netplan_top.specs.declared.network.Network.{Network}
+use Rattle.netplan_top.specs.declared.stop.Stop.{Stop}
+use Rattle.netplan_top.specs.declared.stop.Stop.TheVariants as stop
+use Rattle.netplan_top.specs.NetworkRead.{HasHead, HasBody, IsBodyRead, AreValid, IsMadeOf, IsNetworkRead, amounts}
 use Rattle.netplan_top.proofs.NetworkPlaces.{distinct-push, distinct-none, all-push}
 use Rattle.netplan_top.proofs.NetworkRows.{IsFine, fine-kept, fine-from_body, taken-body, by_kind, node-no_arc, supply-no_node, supply-no_arc, arc-no_node}
 use Rattle.netplan_top.proofs.NetworkSteps.{tables-more, nodes-node, nodes-other, arcs-arc, arcs-other}
@@ -227,3 +231,41 @@ tables-room rows h = record { one_each = length-map-range_with_len (given_at (su
 
 pub so_far-room : (rows left : List (List (List ℕ))) (t : Tables) → IsSoFar rows left t → HasRoom t
 so_far-room rows left t s = rw s.tables (tables-room s.before s.read)
+
+-- a record that a method refuses, where memory did not run out
+pub stops-refused : (stop : Stop) (rows left : List (List (List ℕ))) (t : Tables) (r : List (List ℕ)) → IsSoFar rows (r ∷ left) t → is_end r ≡ false
+    → StopsFor stop (¬ (IsTaken t r)) → StopsFor stop (¬ (HasBody rows))
+stops-refused stop.Outside rows left t r s f refused = so_far-refused rows left t r s f refused
+stops-refused stop.Memory rows left t r s f refused = tt
+
+-- ---- the whole text
+
+-- a head, a body and the network that is made of its tables
+pub network-read : (rows middle after : List (List (List ℕ))) (t : Tables) (network : Network) → HasHead rows → middle ≡ drop 2 rows → IsBodyRead middle after t → IsMadeOf t network
+    → IsNetworkRead rows after network
+unfolding tables_of
+network-read rows middle after t network head e read made =
+    let form : HasBody (drop 2 rows) = rw (sym e) read.form in
+    let tables : t ≡ tables_of (body_of rows) = read.tables ∙ ap (λ (l : List (List (List ℕ))). tables_of (up_to_end l)) e in
+    let behind : after ≡ drop (length (body_of rows) + 1) (drop 2 rows) = read.left ∙ ap (λ (l : List (List (List ℕ))). drop (length (up_to_end l) + 1) l) e in
+    let count : 2 + (length (body_of rows) + 1) ≡ length (body_of rows) + 3 = omega arith in
+    record {
+      form = record {
+        header = head.header;
+        periods = head.periods;
+        ended = form.ended;
+        body = form.body;
+        few_nodes = form.few_nodes;
+        few_arcs = form.few_arcs;
+      };
+      scheme = record {
+        periods = made.periods;
+        nodes = made.scheme_nodes ∙ ap (λ (x : Tables). x.nodes) tables;
+        supply = made.supply ∙ ap (λ (x : Tables). amounts x.supply) tables ∙ amounts-of (body_of rows) (range_with_len 0 (length (node_names (body_of rows))));
+        flows = made.flows ∙ ap (λ (x : Tables). x.flows) tables;
+      };
+      plain = record { one_period = made.periods; flows = rw made.flows read.valid.plain };
+      nodes = made.nodes ∙ ap (λ (x : Tables). x.nodes) tables;
+      arcs = made.arcs ∙ ap (λ (x : Tables). x.arcs) tables;
+      left = behind ∙ drop-drop (length (body_of rows) + 1) 2 rows ∙ ap (λ (n : ℕ). drop n rows) count;
+    }

@@ -26,7 +26,10 @@ pub(crate) struct Network {
 fn is_pair(row: &ByteRecord, first: &[u8], second: &[u8]) -> bool
     ensures { IsTrue result ↔ (fields_of row.now ≡ first.now ∷ second.now ∷ []) }
 {
-    row.len() == 2 && field(row, 0) == first && field(row, 1) == second
+    if row.len() != 2 || field(row, 0) != first {
+        return false;
+    }
+    field(row, 1) == second
 }
 
 // Whether the record is the `end` of a text.
