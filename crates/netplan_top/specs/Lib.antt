@@ -7,3 +7,5 @@ pub mod Texts
 pub mod Words
 pub mod Answers
 pub mod Endings
+pub mod NetworkTables
+pub mod NetworkRead

@@ -4,6 +4,9 @@
 mod answer;
 mod fields;
 mod input;
+mod draft;
+mod fields;
+mod network;
 mod stop;
 mod texts;
 mod top;

@@ -1,0 +1,139 @@
+//! Reading a network text.
+
+ghost use Rattle.std.specs.Prelude.{◌≡◌, ◌↔◌, ℕ, ◌∷◌, [], IsTrue, IfOk, MatchResult, drop, map, take, length};
+ghost use Rattle.csv.specs.Records.{fields_of};
+ghost use Rattle.netplan_top.specs.Reads.{StopsFor};
+ghost use Rattle.netplan_top.specs.Split.{is_end};
+ghost use Rattle.netplan_top.specs.NetworkForm.{IsNetwork};
+ghost use Rattle.netplan_top.specs.NetworkRead.{IsNetworkRead, HasHead, HasBody, IsBodyRead, AreValid, IsMadeOf, amounts};
+
+use crate::draft::Draft;
+use crate::stop::Stop;
+use np_frac::{Frac, Memory};
+use np_model::{Flows, Fracs, Name, Names, Scheme};
+use np_records::{ByteRecord, NameTable, Records, field};
+use std::alloc::Global;
+
+/// A network that was read: its scheme, and the tables of its names.
+#[derive(Drop)]
+pub(crate) struct Network {
+    pub scheme: Scheme,
+    pub nodes: NameTable,
+    pub arcs: NameTable,
+}
+
+// Whether the record has these two fields and no other.
+fn is_pair(row: &ByteRecord, first: &[u8], second: &[u8]) -> bool
+    ensures { IsTrue result ↔ (fields_of row.now ≡ first.now ∷ second.now ∷ []) }
+{
+    if row.len() != 2 || field(row, 0) != first {
+        return false;
+    }
+    field(row, 1) == second
+}
+
+// Whether the record is the `end` of a text.
+fn is_end(row: &ByteRecord) -> bool
+    ensures { result ≡ is_end (fields_of row.now) }
+{
+    row.len() == 1 && field(row, 0) == b"end".as_slice()
+}
+
+// Reads the two records at the head of a network text.
+fn read_head(alloc: Global, records: &mut Records) -> Result<(), Stop>
+    ensures { MatchResult result
+        (λ _. HasHead records.old × (records.new ≡ drop 2 records.old))
+        (λ stop. StopsFor stop (¬ (HasHead records.old))) }
+{
+    let mut row = ByteRecord::new(alloc);
+    if !records.read(&mut row)? || !is_pair(&row, b"netplan", b"1") {
+        return Err(Stop::Outside);
+    }
+    if !records.read(&mut row)? || !is_pair(&row, b"periods", b"1") {
+        return Err(Stop::Outside);
+    }
+    Ok(())
+}
+
+// Reads the records of the body, and the `end`.
+fn read_body(alloc: Global, records: &mut Records) -> Result<Draft, Stop>
+    ensures { MatchResult result
+        (λ draft. IsBodyRead records.old records.new draft)
+        (λ stop. StopsFor stop (¬ (HasBody records.old))) }
+{
+    let mut draft = Draft::new(alloc);
+    let mut row = ByteRecord::new(alloc);
+    'rows: loop {
+        if !records.read(&mut row)? {
+            return Err(Stop::Outside);
+        }
+        if is_end(&row) {
+            return Ok(draft);
+        }
+        draft.take(alloc, &row)?;
+    }
+}
+
+// The names of a table.
+fn names_of(alloc: Global, table: &NameTable) -> Result<Names, Memory>
+    ensures { IfOk result (λ names. names ≡ table.now) }
+{
+    let mut items = Vec::new(alloc);
+    for place in 0..table.len() {
+        let name = Vec::from_slice(alloc, table.name_at(place))?;
+        items.push(Name { items: name })?;
+    }
+    Ok(Names { items })
+}
+
+// The supply of each node, 0 where none is given.
+fn supply_of(alloc: Global, given: &[Option<Frac>]) -> Result<Fracs, Memory>
+    ensures { IfOk result (λ supply. supply ≡ amounts given.now) }
+{
+    let mut items = Vec::new(alloc);
+    for amount in given {
+        items.push(amount.unwrap_or(Frac::whole(0)))?;
+    }
+    Ok(Fracs { items })
+}
+
+// The network of a draft.
+fn finish(alloc: Global, draft: Draft) -> Result<Network, Memory>
+    requires { AreValid draft }
+    ensures { IfOk result (λ network. IsMadeOf draft network) }
+{
+    let Draft {
+        nodes,
+        arcs,
+        supply,
+        flows,
+    } = draft;
+    let names = names_of(alloc, &nodes)?;
+    let supply = supply_of(alloc, &supply)?;
+    let scheme = Scheme {
+        periods: 1,
+        nodes: names,
+        supply,
+        flows: Flows { items: flows },
+    };
+    Ok(Network {
+        scheme,
+        nodes,
+        arcs,
+    })
+}
+
+/// Reads the network text that the records begin with, up to its `end`. The records behind it are left.
+///
+/// `Outside` comes where the records do not begin with a network text of the narrow form, and `Memory` where memory
+/// ran out.
+pub(crate) fn read_network(alloc: Global, records: &mut Records) -> Result<Network, Stop>
+    ensures { MatchResult result
+        (λ network. IsNetworkRead records.old records.new network)
+        (λ stop. StopsFor stop (¬ (IsNetwork records.old))) }
+{
+    read_head(alloc, records)?;
+    let draft = read_body(alloc, records)?;
+    let network = finish(alloc, draft)?;
+    Ok(network)
+}
