@@ -1,1 +1,4 @@
 pub mod Splits
+pub mod ClaimsTables
+pub mod ClaimsText
+pub mod ClaimsDraft

@@ -3,3 +3,4 @@ pub mod Split
 pub mod NetworkForm
 pub mod PlanForm
 pub mod Reads
+pub mod ClaimsRead

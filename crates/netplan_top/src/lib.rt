@@ -1,5 +1,6 @@
 //! The commands.
 #![tactic(auto)]
 
+mod claims;
 mod fields;
 mod stop;
