@@ -5,3 +5,6 @@ pub mod NetworkRows
 pub mod NetworkSteps
 pub mod NetworkValid
 pub mod NetworkBody
+pub mod ClaimsTables
+pub mod ClaimsText
+pub mod ClaimsDraft

@@ -9,3 +9,4 @@ pub mod Answers
 pub mod Endings
 pub mod NetworkTables
 pub mod NetworkRead
+pub mod ClaimsRead

@@ -2,6 +2,7 @@
 #![tactic(auto)]
 
 mod answer;
+mod claims;
 mod fields;
 mod input;
 mod draft;
