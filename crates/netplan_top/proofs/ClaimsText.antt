@@ -46,7 +46,7 @@ module _ (nodes arcs : List (List ℕ)) where
       let shape : up_to_end all ≡ before ++ r ∷ up_to_end after = rw (e, up_to_end-append before (r ∷ after) none, here) refl in
       let claims : AreClaims nodes arcs (before ++ r ∷ up_to_end after) = subst (AreClaims nodes arcs) shape ended.claims in
       let here : IsClaim nodes arcs (take (length before) (before ++ r ∷ up_to_end after)) (slice_index_or (before ++ r ∷ up_to_end after) (length before) []) =
-          claims (length before) (omega (arith, length-append before (r ∷ up_to_end after))) in
+      claims (length before) (omega (arith, length-append before (r ∷ up_to_end after))) in
       wrong (rw (take-append_seam before (r ∷ up_to_end after), get_or-append_seam before r (up_to_end after) []) at here)
 
   -- no `end`
@@ -78,12 +78,14 @@ module _ (nodes arcs : List (List ℕ)) (rows after left : List (List (List ℕ)
   pub whole-plan : rows ≡ plan_header ∷ optimal_verdict ∷ after → ReadsClaims nodes arcs after left draft → left ≡ [] → draft.cost ≡ Some amount
       → IsPlanText nodes arcs rows × HasClaims nodes arcs (body_of rows) draft
   whole-plan e reads nothing cost =
-      let size : length (up_to_end after) + 3 ≡ suc (suc (length (up_to_end after) + 1)) = omega arith in
-      (record {
-        header = rw e refl;
-        verdict = rw e refl;
-        ended = rw e reads.form.ended;
-        claims = subst (λ (all : List (List (List ℕ))). AreClaims nodes arcs (body_of all)) (sym e) reads.form.claims;
-        priced = rw e (rw (reads.has.cost, cost) refl);
-        whole = rw (e, size) (sym reads.left ∙ nothing);
-      }, subst (λ (all : List (List (List ℕ))). HasClaims nodes arcs (body_of all) draft) (sym e) reads.has)
+      let size : length (up_to_end after) + 3 ≡ suc (suc (length (up_to_end after) + 1)) = omega arith in (
+        record {
+          header = rw e refl;
+          verdict = rw e refl;
+          ended = rw e reads.form.ended;
+          claims = subst (λ (all : List (List (List ℕ))). AreClaims nodes arcs (body_of all)) (sym e) reads.form.claims;
+          priced = rw e (rw (reads.has.cost, cost) refl);
+          whole = rw (e, size) (sym reads.left ∙ nothing);
+        },
+        subst (λ (all : List (List (List ℕ))). HasClaims nodes arcs (body_of all) draft) (sym e) reads.has,
+      )

@@ -8,3 +8,4 @@ pub mod NetworkBody
 pub mod ClaimsTables
 pub mod ClaimsText
 pub mod ClaimsDraft
+pub mod InputFacts

@@ -82,45 +82,45 @@ arcs-of rows = refl
 read-more : (rows : List (List (List ℕ))) (r : List (List ℕ)) → IsRead rows → IsTaken (tables_of rows) r → IsRead (rows ++ r ∷ [])
 read-more rows r h taken = by_kind (IsRead (rows ++ r ∷ [])) (tables_of rows) r taken
     (λ t n e.
-      let nodes = nodes-node rows r t in
-      let arcs = arcs-other rows r (node-no_arc r t) in
-      let room : length (node_names rows) < 20000 = rw nodes-of at n.room in
-      let unused : place_of (node_names rows) (field_of r 1) ≡ None = rw nodes-of at n.node.name.unused in
-      let few = h.few_arcs in
-      let size = length_push (node_names rows) (field_of r 1) in
-      record {
-        body = body;
-        fine = rw nodes (all-push (IsFine (node_names rows ++ field_of r 1 ∷ [])) rows r (fine-more (node_names rows) (field_of r 1 ∷ []) rows h.fine) (fine-kept (node_names rows) (field_of r 1 ∷ []) r fine));
-        nodes = rw nodes (distinct-push (node_names rows) (field_of r 1) h.nodes unused);
-        arcs = rw arcs h.arcs;
-        few_nodes = rw nodes (omega arith);
-        few_arcs = rw arcs few;
-      })
+    let nodes = nodes-node rows r t in
+    let arcs = arcs-other rows r (node-no_arc r t) in
+    let room : length (node_names rows) < 20000 = rw nodes-of at n.room in
+    let unused : place_of (node_names rows) (field_of r 1) ≡ None = rw nodes-of at n.node.name.unused in
+    let few = h.few_arcs in
+    let size = length_push (node_names rows) (field_of r 1) in
+    record {
+      body = body;
+      fine = rw nodes (all-push (IsFine (node_names rows ++ field_of r 1 ∷ [])) rows r (fine-more (node_names rows) (field_of r 1 ∷ []) rows h.fine) (fine-kept (node_names rows) (field_of r 1 ∷ []) r fine));
+      nodes = rw nodes (distinct-push (node_names rows) (field_of r 1) h.nodes unused);
+      arcs = rw arcs h.arcs;
+      few_nodes = rw nodes (omega arith);
+      few_arcs = rw arcs few;
+    })
     (λ t s e.
-      let nodes = nodes-other rows r (supply-no_node r t) in
-      let arcs = arcs-other rows r (supply-no_arc r t) in
-      record {
-        body = body;
-        fine = rw nodes (all-push (IsFine (node_names rows)) rows r h.fine fine);
-        nodes = rw nodes h.nodes;
-        arcs = rw arcs h.arcs;
-        few_nodes = rw nodes h.few_nodes;
-        few_arcs = rw arcs h.few_arcs;
-      })
+    let nodes = nodes-other rows r (supply-no_node r t) in
+    let arcs = arcs-other rows r (supply-no_arc r t) in
+    record {
+      body = body;
+      fine = rw nodes (all-push (IsFine (node_names rows)) rows r h.fine fine);
+      nodes = rw nodes h.nodes;
+      arcs = rw arcs h.arcs;
+      few_nodes = rw nodes h.few_nodes;
+      few_arcs = rw arcs h.few_arcs;
+    })
     (λ t a e.
-      let nodes = nodes-other rows r (arc-no_node r t) in
-      let arcs = arcs-arc rows r t in
-      let room : length (arc_names rows) < 100000 = rw arcs-of at a.room in
-      let unused : place_of (arc_names rows) (field_of r 1) ≡ None = rw arcs-of at a.arc.name.unused in
-      let size = length_push (arc_names rows) (field_of r 1) in
-      record {
-        body = body;
-        fine = rw nodes (all-push (IsFine (node_names rows)) rows r h.fine fine);
-        nodes = rw nodes h.nodes;
-        arcs = rw arcs (distinct-push (arc_names rows) (field_of r 1) h.arcs unused);
-        few_nodes = rw nodes h.few_nodes;
-        few_arcs = rw arcs (omega arith);
-      })
+    let nodes = nodes-other rows r (arc-no_node r t) in
+    let arcs = arcs-arc rows r t in
+    let room : length (arc_names rows) < 100000 = rw arcs-of at a.room in
+    let unused : place_of (arc_names rows) (field_of r 1) ≡ None = rw arcs-of at a.arc.name.unused in
+    let size = length_push (arc_names rows) (field_of r 1) in
+    record {
+      body = body;
+      fine = rw nodes (all-push (IsFine (node_names rows)) rows r h.fine fine);
+      nodes = rw nodes h.nodes;
+      arcs = rw arcs (distinct-push (arc_names rows) (field_of r 1) h.arcs unused);
+      few_nodes = rw nodes h.few_nodes;
+      few_arcs = rw arcs (omega arith);
+    })
   where
     here : IsBodyRecord (node_names rows) (arc_names rows) r
     here = rw (nodes-of rows, arcs-of rows) at (taken-body (tables_of rows) r taken)

@@ -120,7 +120,7 @@ tables-node rows r fine t =
     let last : given_at (supplies rows) (length (node_names rows)) ≡ None = given_at-beyond (supplies rows) (length (node_names rows)) (supplies-within (node_names rows) rows fine) in
     let size : length (node_names (rows ++ r ∷ [])) ≡ length (node_names rows) + 1 = rw nodes (length_push (node_names rows) (field_of r 1)) in
     let supply : map (given_at (supplies (rows ++ r ∷ []))) (range_with_len 0 (length (node_names (rows ++ r ∷ [])))) ≡ map (given_at (supplies rows)) (range_with_len 0 (length (node_names rows))) ++ None ∷ [] =
-        rw (given, size, map-range_with_len_more (given_at (supplies rows)) 0 (length (node_names rows)) (length (node_names rows)) (omega arith), last) refl in
+    rw (given, size, map-range_with_len_more (given_at (supplies rows)) 0 (length (node_names rows)) (length (node_names rows)) (omega arith), last) refl in
     same _ _ nodes arcs supply flows
 
 pub tables-supply : (rows : List (List (List ℕ))) (r : List (List ℕ)) → is_kind r (codes "supply") ≡ true → IsSupply (node_names rows) r
@@ -134,7 +134,7 @@ tables-supply rows r t taken =
     let given : supplies (rows ++ r ∷ []) ≡ supplies rows ++ (place_in ns (field_of r 1), amount_of (field_of r 3)) ∷ [] = rw nodes (gives (supply_in ns) rows r _ gift) in
     let flows : filter_map (flow_in (node_names (rows ++ r ∷ []))) (rows ++ r ∷ []) ≡ filter_map (flow_in ns) rows = rw nodes (gives_none (flow_in ns) rows r (rw (supply-no_arc r t) refl)) in
     let supply : map (given_at (supplies (rows ++ r ∷ []))) (range_with_len 0 (length (node_names (rows ++ r ∷ [])))) ≡ set (map (given_at (supplies rows)) (range_with_len 0 (length ns))) (place_in ns (field_of r 1)) (Some (amount_of (field_of r 3))) =
-        rw (given, nodes) (given-more (supplies rows) (length ns) (place_in ns (field_of r 1)) (amount_of (field_of r 3)) (place-within ns (field_of r 1) taken.node)) in
+    rw (given, nodes) (given-more (supplies rows) (length ns) (place_in ns (field_of r 1)) (amount_of (field_of r 3)) (place-within ns (field_of r 1) taken.node)) in
     same _ _ nodes arcs supply flows
 
 pub tables-arc : (rows : List (List (List ℕ))) (r : List (List ℕ)) → is_kind r (codes "arc") ≡ true → tables_of (rows ++ r ∷ []) ≡ with_arc (tables_of rows) r

@@ -10,3 +10,4 @@ pub mod Endings
 pub mod NetworkTables
 pub mod NetworkRead
 pub mod ClaimsRead
+pub mod InputRead

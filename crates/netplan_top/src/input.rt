@@ -1,12 +1,15 @@
 //! The input of `check`: a network text with a plan text behind it.
 
-ghost use Rattle.std.specs.Prelude.{IfOk, MatchResult};
-ghost use Rattle.np_model.specs.Fits.{PlanFits};
-ghost use Rattle.cert_checker.specs.Plain.{IsPlain};
-ghost use Rattle.netplan_top.specs.Reads.{IsInForm, Reads, StopsFor};
+ghost use Rattle.std.specs.Prelude.{MatchResult};
+ghost use Rattle.netplan_top.specs.Reads.{IsInForm, StopsFor};
+ghost use Rattle.netplan_top.specs.InputRead.{IsInputRead};
 
+use crate::claims::read_plan;
+use crate::network::{Network, read_network};
 use crate::stop::Stop;
+use cert_checker::one_arc_each;
 use np_model::{Plan, Scheme};
+use np_records::Records;
 use std::alloc::Global;
 
 /// A scheme and a plan of it.
@@ -16,10 +19,19 @@ pub(crate) struct Input {
     pub plan: Plan,
 }
 
-/// The scheme and the plan that the bytes stand for.
-pub(crate) fn read_input(_alloc: Global, _bytes: &[u8]) -> Result<Input, Stop>
-    ensures read { MatchResult result (λ input. Reads _bytes.now input.scheme input.plan) (λ stop. StopsFor stop (¬ (IsInForm _bytes.now))) }
-    ensures fits { IfOk result (λ input. IsPlain input.scheme × PlanFits input.scheme input.plan) }
+/// The scheme and the plan that the bytes stand for. `Outside` comes exactly where they are outside the narrow form.
+pub(crate) fn read_input(alloc: Global, bytes: &[u8]) -> Result<Input, Stop>
+    ensures { MatchResult result
+        (λ input. IsInputRead bytes.now input.scheme input.plan)
+        (λ stop. StopsFor stop (¬ (IsInForm bytes.now))) }
 {
-    Err(Stop::Memory)
+    one_arc_each();
+    let mut records = Records::new(alloc, bytes);
+    let Network {
+        scheme,
+        nodes,
+        arcs,
+    } = read_network(alloc, &mut records)?;
+    let plan = read_plan(alloc, &mut records, &nodes, &arcs)?;
+    Ok(Input { scheme, plan })
 }

@@ -3,10 +3,9 @@
 
 mod answer;
 mod claims;
-mod fields;
-mod input;
 mod draft;
 mod fields;
+mod input;
 mod network;
 mod stop;
 mod texts;

@@ -2,7 +2,9 @@ use crate::run;
 use np_io::{MemSink, MemSource, Sink, Source, SureSink, SureSource};
 use np_model::OpenGate;
 use std::alloc::Global;
+use std::process::Abort;
 use std::test::Fail;
+use std::thread::Threads;
 
 const NETWORK: [&str; 8] = [
     "netplan,1",
@@ -60,8 +62,12 @@ fn words_of(alloc: Global, words: &[&str]) -> Result<Vec<String>, Fail> {
 }
 
 // The status, and what was written, over streams that do not fail.
-fn outcome(rt: &HostRuntime, words: &[&str], input: &str) -> Result<(u8, Vec<u8>), Fail> {
-    let alloc = rt.alloc();
+fn outcome(
+    rt: &(impl Threads + Sync),
+    alloc: Global,
+    words: &[&str],
+    input: &str,
+) -> Result<(u8, Vec<u8>), Fail> {
     let words = words_of(alloc, words)?;
     let mut source = SureSource::new(bytes_of(alloc, input)?);
     let mut sink = SureSink::new(Vec::with_capacity(alloc, 1000)?);
@@ -69,8 +75,14 @@ fn outcome(rt: &HostRuntime, words: &[&str], input: &str) -> Result<(u8, Vec<u8>
     Ok((status, Vec::from_slice(alloc, sink.written())?))
 }
 
-fn expect(rt: &HostRuntime, input: &str, status: u8, want: &str) -> Result<(), Fail> {
-    let (got, written) = outcome(rt, &["check"], input)?;
+fn expect(
+    rt: &(impl Abort + Threads + Sync),
+    alloc: Global,
+    input: &str,
+    status: u8,
+    want: &str,
+) -> Result<(), Fail> {
+    let (got, written) = outcome(rt, alloc, &["check"], input)?;
     assert_eq!(rt; got, status, "{input}");
     assert!(rt;
         written.as_slice() == want.as_bytes(),
@@ -130,7 +142,7 @@ fn answers_rows(rt: HostRuntime) -> Result<(), Fail> {
     ];
     for (old, new, status, want) in rows {
         let input = changed(rt.alloc(), old, new)?;
-        expect(&rt, input.as_str(), status, want)?;
+        expect(&rt, rt.alloc(), input.as_str(), status, want)?;
     }
     Ok(())
 }
@@ -162,23 +174,42 @@ fn refuses_what_is_outside(rt: HostRuntime) -> Result<(), Fail> {
     ];
     for (old, new) in rows {
         let input = changed(rt.alloc(), old, new)?;
-        expect(&rt, input.as_str(), 5, later)?;
+        expect(&rt, rt.alloc(), input.as_str(), 5, later)?;
     }
-    expect(&rt, "", 5, later)
+    expect(&rt, rt.alloc(), "", 5, later)
 }
 
 #[test]
 fn accepts_the_empty_network(rt: HostRuntime) -> Result<(), Fail> {
     let input = "netplan,1\nperiods,1\nend\nnetplan-plan,1\nverdict,optimal\ncost,0\nend\n";
-    expect(&rt, input, 0, "netplan-check,1\naccepted,optimal,0\nend\n")
+    expect(
+        &rt,
+        rt.alloc(),
+        input,
+        0,
+        "netplan-check,1\naccepted,optimal,0\nend\n",
+    )
 }
 
 #[test]
 fn tells_what_passes(rt: HostRuntime) -> Result<(), Fail> {
-    // Two arcs in a row with a gain and a cost near the greatest amount, whose price has a product of 54 digits.
-    let input = "netplan,1\nperiods,1\nnode,A\nnode,B\narc,u,A,B,999999999999999999,0,inf,0\nend\n\
-        netplan-plan,1\nverdict,optimal\ncost,0\nflow,u,1,0\nprice,B,1,999999999999999999\nend\n";
-    expect(&rt, input, 0, "netplan-check,1\naccepted,optimal,0\nend\n")
+    // 171 arcs bring the greatest amount into B, times the greatest gain: 170 of these products are below 2^127.
+    let alloc = rt.alloc();
+    let mut input = String::new(alloc);
+    input.push_str("netplan,1\nperiods,1\nnode,B\nnode,A\n")?;
+    for i in 0..171 {
+        let arc = format!(in alloc; "arc,u{i},A,B,999999999999999999,0,inf,0\n")?;
+        input.push_str(arc.as_str())?;
+    }
+    input.push_str("end\nnetplan-plan,1\nverdict,optimal\ncost,0\n")?;
+    for i in 0..171 {
+        let flow = format!(in alloc; "flow,u{i},1,999999999999999999\n")?;
+        input.push_str(flow.as_str())?;
+    }
+    input.push_str("end\n")?;
+    let want =
+        "netplan-check,1\npast,C1,minus,-169999999999999999660000000000000000170,999999999999999998000000000000000001\nend\n";
+    expect(&rt, rt.alloc(), input.as_str(), 4, want)
 }
 
 #[test]

@@ -7,4 +7,4 @@ use Rattle.netplan_top.proofs.answer.answer_of.Goals as goal
 pub returns-in-Ok : goal.returns-in-Ok
 returns-in-Ok c =
     IfOk-weaker c.judged.result (λ (a : Answer). IsJudged c.in-Ok.input.scheme c.in-Ok.input.plan a.status a.text.items) (λ (a : Answer). IsAnswer c.args.bytes.now a.status a.text.items)
-    (λ a judged. answer_judged c.args.bytes.now c.in-Ok.input.scheme c.in-Ok.input.plan a.status a.text.items c.in-Ok.ensures.read judged) c.judged.ensures
+    (λ a judged. answer_judged c.args.bytes.now c.in-Ok.input.scheme c.in-Ok.input.plan a.status a.text.items c.in-Ok.ensures.reads judged) c.judged.ensures
