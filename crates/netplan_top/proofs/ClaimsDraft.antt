@@ -1,9 +1,9 @@
 -- One more record of a plan text, and what the draft has then.
-use Rattle.std.specs.Prelude.{◌≡◌, ℕ, zero, suc, ◌≢◌, slice_get, ◌<◌, Bool, true, false, MatchBool, MatchOption, IfSome, is_some, List, [], ◌∷◌, ◌++◌, length, codes, Option, Some, None, set, get_or}
+use Rattle.std.specs.Prelude.{◌≡◌, ℕ, zero, suc, ◌≢◌, slice_get, ◌<◌, Bool, true, false, MatchBool, IfSome, is_some, List, [], ◌∷◌, ◌++◌, length, codes, Option, Some, None, set, get_or}
 use Rattle.std.specs.List.{filter_map}
 use Rattle.std.specs.Option.{option_to_list}
 use Rattle.std.specs.Str.{bytes_eq}
-use Rattle.std.proofs.Common.{refl, ap, sym, ◌∙◌, inl, inr, arith}
+use Rattle.std.proofs.Common.{refl, ap, sym, ◌∙◌, arith}
 use Rattle.std.proofs.lemmas.List.{append-nil}
 use Rattle.std.proofs.lemmas.List.Elements.{filter_map-append}
 use Rattle.std.proofs.lemmas.Slice.Eq.{bytes_eq-Decides}
@@ -39,52 +39,58 @@ module _ (nodes arcs : List (List ℕ)) (before : List (List (List ℕ))) (r : L
       let claim : IsClaim nodes arcs before r = rw kind step.0 in
       let cost : cost_in r ≡ Some (amount_of (field_of r 1)) = rw kind refl in
       let flow : amount_in (codes "flow") arcs r ≡ None = rw word refl in
-      let price : amount_in (codes "price") nodes r ≡ None = rw word refl in
-      (claim, rw step.1 (record {
-        cost = given-more cost_in before r (amount_of (field_of r 1)) cost ∙ rw step.0.only refl;
-        flows = has.flows ∙ ap (table_of arcs) (sym (given-same (amount_in (codes "flow") arcs) before r flow));
-        prices = has.prices ∙ ap (table_of nodes) (sym (given-same (amount_in (codes "price") nodes) before r price));
-      }))
+      let price : amount_in (codes "price") nodes r ≡ None = rw word refl in (
+        claim,
+        rw step.1 (record {
+          cost = given-more cost_in before r (amount_of (field_of r 1)) cost ∙ rw step.0.only refl;
+          flows = has.flows ∙ ap (table_of arcs) (sym (given-same (amount_in (codes "flow") arcs) before r flow));
+          prices = has.prices ∙ ap (table_of nodes) (sym (given-same (amount_in (codes "price") nodes) before r price));
+        }),
+      )
   takes-cost false new kind has step = λ claim. step (rw kind at claim)
 
   pub takes-flow : (taken : Bool) (new : Draft) → is_kind r (codes "flow") ≡ true → HasClaims nodes arcs before draft
       → new.cost ≡ draft.cost → new.prices ≡ draft.prices
       → MatchBool taken
-        (IsAmountFor arcs (flows_given arcs before) r × (place : ℕ) × (place_of arcs (field_of r 1) ≡ Some place)
-        × (new.flows.items ≡ table_of arcs (flows_given arcs before ++ (place, amount_of (field_of r 3)) ∷ [])))
-        (¬ (IsAmountFor arcs (flows_given arcs before) r))
+      (IsAmountFor arcs (flows_given arcs before) r × (place : ℕ) × (place_of arcs (field_of r 1) ≡ Some place)
+      × (new.flows.items ≡ table_of arcs (flows_given arcs before ++ (place, amount_of (field_of r 3)) ∷ [])))
+      (¬ (IsAmountFor arcs (flows_given arcs before) r))
       → Takes taken new
   takes-flow true new kind has cost_same prices_same step =
       let word = kind-is r (codes "flow") kind in
       let claim : IsClaim nodes arcs before r = rw word step.0 in
       let cost : cost_in r ≡ None = rw word refl in
       let flow : amount_in (codes "flow") arcs r ≡ Some (step.1, amount_of (field_of r 3)) = rw (kind, step.2) refl in
-      let price : amount_in (codes "price") nodes r ≡ None = rw word refl in
-      (claim, record {
-        cost = given-same cost_in before r cost ∙ has.cost ∙ ap option_to_list (sym cost_same);
-        flows = step.3 ∙ ap (table_of arcs) (sym (given-more (amount_in (codes "flow") arcs) before r (step.1, amount_of (field_of r 3)) flow));
-        prices = rw prices_same (has.prices ∙ ap (table_of nodes) (sym (given-same (amount_in (codes "price") nodes) before r price)));
-      })
+      let price : amount_in (codes "price") nodes r ≡ None = rw word refl in (
+        claim,
+        record {
+          cost = given-same cost_in before r cost ∙ has.cost ∙ ap option_to_list (sym cost_same);
+          flows = step.3 ∙ ap (table_of arcs) (sym (given-more (amount_in (codes "flow") arcs) before r (step.1, amount_of (field_of r 3)) flow));
+          prices = rw prices_same (has.prices ∙ ap (table_of nodes) (sym (given-same (amount_in (codes "price") nodes) before r price)));
+        },
+      )
   takes-flow false new kind has cost_same prices_same step = λ claim. step (rw (kind-is r (codes "flow") kind) at claim)
 
   pub takes-price : (taken : Bool) (new : Draft) → is_kind r (codes "price") ≡ true → HasClaims nodes arcs before draft
       → new.cost ≡ draft.cost → new.flows ≡ draft.flows
       → MatchBool taken
-        (IsAmountFor nodes (prices_given nodes before) r × (place : ℕ) × (place_of nodes (field_of r 1) ≡ Some place)
-        × (new.prices.items ≡ table_of nodes (prices_given nodes before ++ (place, amount_of (field_of r 3)) ∷ [])))
-        (¬ (IsAmountFor nodes (prices_given nodes before) r))
+      (IsAmountFor nodes (prices_given nodes before) r × (place : ℕ) × (place_of nodes (field_of r 1) ≡ Some place)
+      × (new.prices.items ≡ table_of nodes (prices_given nodes before ++ (place, amount_of (field_of r 3)) ∷ [])))
+      (¬ (IsAmountFor nodes (prices_given nodes before) r))
       → Takes taken new
   takes-price true new kind has cost_same flows_same step =
       let word = kind-is r (codes "price") kind in
       let claim : IsClaim nodes arcs before r = rw word step.0 in
       let cost : cost_in r ≡ None = rw word refl in
       let flow : amount_in (codes "flow") arcs r ≡ None = rw word refl in
-      let price : amount_in (codes "price") nodes r ≡ Some (step.1, amount_of (field_of r 3)) = rw (kind, step.2) refl in
-      (claim, record {
-        cost = given-same cost_in before r cost ∙ has.cost ∙ ap option_to_list (sym cost_same);
-        flows = rw flows_same (has.flows ∙ ap (table_of arcs) (sym (given-same (amount_in (codes "flow") arcs) before r flow)));
-        prices = step.3 ∙ ap (table_of nodes) (sym (given-more (amount_in (codes "price") nodes) before r (step.1, amount_of (field_of r 3)) price));
-      })
+      let price : amount_in (codes "price") nodes r ≡ Some (step.1, amount_of (field_of r 3)) = rw (kind, step.2) refl in (
+        claim,
+        record {
+          cost = given-same cost_in before r cost ∙ has.cost ∙ ap option_to_list (sym cost_same);
+          flows = rw flows_same (has.flows ∙ ap (table_of arcs) (sym (given-same (amount_in (codes "flow") arcs) before r flow)));
+          prices = step.3 ∙ ap (table_of nodes) (sym (given-more (amount_in (codes "price") nodes) before r (step.1, amount_of (field_of r 3)) price));
+        },
+      )
   takes-price false new kind has cost_same flows_same step = λ claim. step (rw (kind-is r (codes "price") kind) at claim)
 
 get-at : (table : List (Option Ratio)) (place : ℕ) (d : Option Ratio) → place < length table → slice_get table place ≡ Some (get_or table place d)
@@ -97,8 +103,8 @@ pub gives : (names : List (List ℕ)) (given : List (ℕ × Ratio)) (r : List (L
     → table ≡ table_of names given → GivesAmount names r place amount → place < length names
     → MatchBool put ((slice_get table place ≡ Some None) × (new ≡ set table place (Some amount))) (slice_get table place ≢ Some None)
     → MatchBool put
-      (IsAmountFor names given r × (x : ℕ) × (place_of names (field_of r 1) ≡ Some x) × (new ≡ table_of names (given ++ (x, amount_of (field_of r 3)) ∷ [])))
-      (¬ (IsAmountFor names given r))
+    (IsAmountFor names given r × (x : ℕ) × (place_of names (field_of r 1) ≡ Some x) × (new ≡ table_of names (given ++ (x, amount_of (field_of r 3)) ∷ [])))
+    (¬ (IsAmountFor names given r))
 gives names given r table new place amount put is has within step =
     let long : place < length table = rw (is, table-length names given) within in
     let here : slice_get table place ≡ Some (given_at given place) = rw is (get-at (table_of names given) place None (rw (table-length names given) within) ∙ ap (λ (o : Option Ratio). Some o) (table-at names given place None within)) in
@@ -108,17 +114,21 @@ gives names given r table new place amount put is has within step =
         → MatchBool put ((slice_get table place ≡ Some None) × (new ≡ set table place (Some amount))) (slice_get table place ≢ Some None)
         → slice_get table place ≡ Some (given_at given place)
         → MatchBool put
-          (IsAmountFor names given r × (x : ℕ) × (place_of names (field_of r 1) ≡ Some x) × (new ≡ table_of names (given ++ (x, amount_of (field_of r 3)) ∷ [])))
-          (¬ (IsAmountFor names given r))
+        (IsAmountFor names given r × (x : ℕ) × (place_of names (field_of r 1) ≡ Some x) × (new ≡ table_of names (given ++ (x, amount_of (field_of r 3)) ∷ [])))
+        (¬ (IsAmountFor names given r))
     cases true step here =
-        let only : given_at given place ≡ None = cc (step.0, here) in
-        (record {
-          fields = has.fields;
-          name = rw has.found refl;
-          period = has.period;
-          amount = has.whole;
-          only = rw has.found only;
-        }, place, has.found, step.1 ∙ rw (is, table-set names given place amount within, has.value) refl)
+        let only : given_at given place ≡ None = cc (step.0, here) in (
+          record {
+            fields = has.fields;
+            name = rw has.found refl;
+            period = has.period;
+            amount = has.whole;
+            only = rw has.found only;
+          },
+          place,
+          has.found,
+          step.1 ∙ rw (is, table-set names given place amount within, has.value) refl,
+        )
     cases false step here = λ claim.
         let only : given_at given place ≡ None = rw has.found at claim.only in
         step (here ∙ rw only refl)

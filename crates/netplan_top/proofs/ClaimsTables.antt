@@ -1,5 +1,5 @@
 -- Tables of what is given at each name.
-use Rattle.std.specs.Prelude.{◌≡◌, ℕ, ◌+◌, ◌<◌, ◌==◌, if◌then◌else◌, Option, Some, None, unwrap_or, List, [], ◌∷◌, ◌++◌, length, map, replicate, set, get_or}
+use Rattle.std.specs.Prelude.{◌≡◌, ℕ, ◌<◌, ◌==◌, if◌then◌else◌, Option, Some, None, unwrap_or, List, [], ◌∷◌, ◌++◌, length, map, replicate, set, get_or}
 use Rattle.std.specs.List.{range_with_len}
 use Rattle.std.proofs.Common.{refl, ap, sym, ◌∙◌, inl, inr, arith}
 use Rattle.std.proofs.lemmas.Bool.{cases_Bool, eqb-true, eq-eqb}
@@ -13,7 +13,7 @@ use Rattle.netplan_top.specs.ClaimsRead.{table_of}
 -- what is given last counts
 pub given_at-append : (given : List (ℕ × Ratio)) (place : ℕ) (amount : Ratio) (k : ℕ)
     → given_at (given ++ (place, amount) ∷ []) k ≡ (if place == k then Some amount else given_at given k)
-given_at-append [] place amount k = elim (cases_Bool (place == k)) [ | inl t ↦ rw t refl | inr f ↦ rw f refl ]
+given_at-append [] place amount k = elim (cases_Bool (place == k)) [ inl t ↦ rw t refl | inr f ↦ rw f refl ]
 given_at-append (g ∷ gs) place amount k = elim (cases_Bool (place == k)) [
   | inl t ↦ rw (given_at-append gs place amount k, t) refl
   | inr f ↦ rw (given_at-append gs place amount k, f) refl
@@ -48,7 +48,7 @@ table-set names given place amount within =
 pub table-empty : (names : List (List ℕ)) (n : ℕ) → n ≡ length names → replicate n None ≡ table_of names []
 table-empty names n e =
     rw e (fill_by_all (given_at []) (replicate (length names) None) (length names) None
-      (length-replicate (length names) None) (λ (k : ℕ) (h : k < length names). get_or-replicate (length names) k None None h))
+    (length-replicate (length names) None) (λ (k : ℕ) (h : k < length names). get_or-replicate (length names) k None None h))
 
 map-map : {A B C : Type 0} (f : B → C) (g : A → B) (xs : List A) → map f (map g xs) ≡ map (λ x. f (g x)) xs
 map-map f g [] = refl

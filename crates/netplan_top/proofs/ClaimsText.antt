@@ -1,7 +1,6 @@
 -- The records of a plan text, up to its `end`.
-use Rattle.std.specs.Prelude.{◌≡◌, ℕ, zero, suc, ◌+◌, ◌<◌, ◌≤◌, true, false, not, MatchBool, List, [], ◌∷◌, ◌++◌, length, take, drop, get_or, slice_get, slice_index_or, Option, Some, None}
-use Rattle.std.specs.List.{list_any, filter_map}
-use Rattle.std.specs.Option.{option_to_list}
+use Rattle.std.specs.Prelude.{◌≡◌, ℕ, suc, ◌+◌, ◌≤◌, true, false, List, [], ◌∷◌, ◌++◌, length, take, slice_index_or, Some}
+use Rattle.std.specs.List.{list_any}
 use Rattle.std.proofs.Common.{refl, ap, subst, append_assoc, sym, ◌∙◌, inl, inr, arith}
 use Rattle.std.proofs.lemmas.Bool.{cases_Bool, cases_lt}
 use Rattle.std.proofs.lemmas.List.{append-nil, length-append, take-append-le, get_or_append_left}
@@ -9,8 +8,8 @@ use Rattle.std.proofs.lemmas.List.Folds.{list_any-append}
 use Rattle.std.proofs.Math.Seq.{take-append_seam, get_or-append_seam, drop-append-add}
 use Rattle.np_frac.specs.Ratio.{Ratio}
 use Rattle.netplan_top.specs.declared.claims.Draft.{Draft}
-use Rattle.netplan_top.specs.Split.{is_end, up_to_end, body_of, rest_of}
-use Rattle.netplan_top.specs.PlanForm.{IsClaim, AreClaims, IsPlanText, plan_header, optimal_verdict, costs}
+use Rattle.netplan_top.specs.Split.{is_end, up_to_end, body_of}
+use Rattle.netplan_top.specs.PlanForm.{IsClaim, AreClaims, IsPlanText, plan_header, optimal_verdict}
 use Rattle.netplan_top.specs.ClaimsRead.{AreEndedClaims, HasClaims, ReadsClaims}
 
 -- records before the first `end`
@@ -46,7 +45,7 @@ module _ (nodes arcs : List (List ℕ)) where
       let shape : up_to_end all ≡ before ++ r ∷ up_to_end after = rw (e, up_to_end-append before (r ∷ after) none, here) refl in
       let claims : AreClaims nodes arcs (before ++ r ∷ up_to_end after) = subst (AreClaims nodes arcs) shape ended.claims in
       let here : IsClaim nodes arcs (take (length before) (before ++ r ∷ up_to_end after)) (slice_index_or (before ++ r ∷ up_to_end after) (length before) []) =
-          claims (length before) (omega (arith, length-append before (r ∷ up_to_end after))) in
+      claims (length before) (omega (arith, length-append before (r ∷ up_to_end after))) in
       wrong (rw (take-append_seam before (r ∷ up_to_end after), get_or-append_seam before r (up_to_end after) []) at here)
 
   -- no `end`
@@ -78,12 +77,14 @@ module _ (nodes arcs : List (List ℕ)) (rows after left : List (List (List ℕ)
   pub whole-plan : rows ≡ plan_header ∷ optimal_verdict ∷ after → ReadsClaims nodes arcs after left draft → left ≡ [] → draft.cost ≡ Some amount
       → IsPlanText nodes arcs rows × HasClaims nodes arcs (body_of rows) draft
   whole-plan e reads nothing cost =
-      let size : length (up_to_end after) + 3 ≡ suc (suc (length (up_to_end after) + 1)) = omega arith in
-      (record {
-        header = rw e refl;
-        verdict = rw e refl;
-        ended = rw e reads.form.ended;
-        claims = subst (λ (all : List (List (List ℕ))). AreClaims nodes arcs (body_of all)) (sym e) reads.form.claims;
-        priced = rw e (rw (reads.has.cost, cost) refl);
-        whole = rw (e, size) (sym reads.left ∙ nothing);
-      }, subst (λ (all : List (List (List ℕ))). HasClaims nodes arcs (body_of all) draft) (sym e) reads.has)
+      let size : length (up_to_end after) + 3 ≡ suc (suc (length (up_to_end after) + 1)) = omega arith in (
+        record {
+          header = rw e refl;
+          verdict = rw e refl;
+          ended = rw e reads.form.ended;
+          claims = subst (λ (all : List (List (List ℕ))). AreClaims nodes arcs (body_of all)) (sym e) reads.form.claims;
+          priced = rw e (rw (reads.has.cost, cost) refl);
+          whole = rw (e, size) (sym reads.left ∙ nothing);
+        },
+        subst (λ (all : List (List (List ℕ))). HasClaims nodes arcs (body_of all) draft) (sym e) reads.has,
+      )

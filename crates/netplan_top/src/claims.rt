@@ -250,3 +250,6 @@ pub(crate) fn read_plan(
         None => Err(Stop::Outside),
     }
 }
+
+#[cfg(test)]
+mod tests;

@@ -32,12 +32,13 @@ claims-preserved c =
     let next : c.claims.records ≡ fields_of c.read.new.row ∷ c.read.new.self = rw found at c.in_ok-read.ensures.next in
     let here : is_end (fields_of c.read.new.row) ≡ false = search rules in
     let taken : c.take.result ≡ true = search rules in
-    let step = rw taken at (c.take.ensures inv.0 inv.4) in
-    (inv.0 ++ fields_of c.read.new.row ∷ [],
+    let step = rw taken at (c.take.ensures inv.0 inv.4) in (
+      inv.0 ++ fields_of c.read.new.row ∷ [],
       append-one inv.0 c.claims.records c.read.new.self c.args.records.now (fields_of c.read.new.row) inv.1 next,
       none-more inv.0 (fields_of c.read.new.row) inv.2 here,
       claims-more c.args.nodes.now c.args.arcs.now inv.0 (fields_of c.read.new.row) inv.3 step.0,
-      step.1)
+      step.1,
+    )
 
 pub take-requires-clause-flows : goal.take-requires-clause-flows
 take-requires-clause-flows c =
