@@ -1,9 +1,9 @@
 -- One more record of a plan text, and what the draft has then.
-use Rattle.std.specs.Prelude.{◌≡◌, ℕ, zero, suc, ◌≢◌, slice_get, ◌<◌, Bool, true, false, MatchBool, MatchOption, IfSome, is_some, List, [], ◌∷◌, ◌++◌, length, codes, Option, Some, None, set, get_or}
+use Rattle.std.specs.Prelude.{◌≡◌, ℕ, zero, suc, ◌≢◌, slice_get, ◌<◌, Bool, true, false, MatchBool, IfSome, is_some, List, [], ◌∷◌, ◌++◌, length, codes, Option, Some, None, set, get_or}
 use Rattle.std.specs.List.{filter_map}
 use Rattle.std.specs.Option.{option_to_list}
 use Rattle.std.specs.Str.{bytes_eq}
-use Rattle.std.proofs.Common.{refl, ap, sym, ◌∙◌, inl, inr, arith}
+use Rattle.std.proofs.Common.{refl, ap, sym, ◌∙◌, arith}
 use Rattle.std.proofs.lemmas.List.{append-nil}
 use Rattle.std.proofs.lemmas.List.Elements.{filter_map-append}
 use Rattle.std.proofs.lemmas.Slice.Eq.{bytes_eq-Decides}

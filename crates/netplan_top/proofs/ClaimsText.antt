@@ -1,7 +1,6 @@
 -- The records of a plan text, up to its `end`.
-use Rattle.std.specs.Prelude.{◌≡◌, ℕ, zero, suc, ◌+◌, ◌<◌, ◌≤◌, true, false, not, MatchBool, List, [], ◌∷◌, ◌++◌, length, take, drop, get_or, slice_get, slice_index_or, Option, Some, None}
-use Rattle.std.specs.List.{list_any, filter_map}
-use Rattle.std.specs.Option.{option_to_list}
+use Rattle.std.specs.Prelude.{◌≡◌, ℕ, suc, ◌+◌, ◌≤◌, true, false, List, [], ◌∷◌, ◌++◌, length, take, slice_index_or, Some}
+use Rattle.std.specs.List.{list_any}
 use Rattle.std.proofs.Common.{refl, ap, subst, append_assoc, sym, ◌∙◌, inl, inr, arith}
 use Rattle.std.proofs.lemmas.Bool.{cases_Bool, cases_lt}
 use Rattle.std.proofs.lemmas.List.{append-nil, length-append, take-append-le, get_or_append_left}
@@ -9,8 +8,8 @@ use Rattle.std.proofs.lemmas.List.Folds.{list_any-append}
 use Rattle.std.proofs.Math.Seq.{take-append_seam, get_or-append_seam, drop-append-add}
 use Rattle.np_frac.specs.Ratio.{Ratio}
 use Rattle.netplan_top.specs.declared.claims.Draft.{Draft}
-use Rattle.netplan_top.specs.Split.{is_end, up_to_end, body_of, rest_of}
-use Rattle.netplan_top.specs.PlanForm.{IsClaim, AreClaims, IsPlanText, plan_header, optimal_verdict, costs}
+use Rattle.netplan_top.specs.Split.{is_end, up_to_end, body_of}
+use Rattle.netplan_top.specs.PlanForm.{IsClaim, AreClaims, IsPlanText, plan_header, optimal_verdict}
 use Rattle.netplan_top.specs.ClaimsRead.{AreEndedClaims, HasClaims, ReadsClaims}
 
 -- records before the first `end`

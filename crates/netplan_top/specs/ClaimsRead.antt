@@ -16,7 +16,7 @@ use Rattle.netplan_top.specs.PlanForm.{AreClaims, costs, flows_given, prices_giv
 abbrev pub table_of : List (List ℕ) → List (ℕ × Ratio) → List (Option Ratio)
 table_of names given = map (given_at given) (range_with_len 0 (length names))
 
--- the record gives this amount to the name at this place, if none was given there before
+-- the record gives this amount to the name at this place, whatever was given there before
 pub record GivesAmount (names : List (List ℕ)) (r : List (List ℕ)) (place : ℕ) (amount : Ratio) : Type 0 where
   pub fields : length r ≡ 4
   pub found : place_of names (field_of r 1) ≡ Some place
@@ -35,7 +35,7 @@ pub record AreEndedClaims (nodes arcs : List (List ℕ)) (rows : List (List (Lis
   pub ended : list_any is_end rows ≡ true
   pub claims : AreClaims nodes arcs (up_to_end rows)
 
--- they were read up to `end`, and these records are left
+-- the claims were read up to `end`, which leaves the records behind it
 pub record ReadsClaims (nodes arcs : List (List ℕ)) (rows after : List (List (List ℕ))) (draft : Draft) : Type 0 where
   pub form : AreEndedClaims nodes arcs rows
   pub has : HasClaims nodes arcs (up_to_end rows) draft

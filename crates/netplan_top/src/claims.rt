@@ -1,6 +1,6 @@
 //! The plan text: an optimal plan's cost, flows and prices.
 
-ghost use Rattle.std.specs.Prelude.{◌≡◌, ◌≢◌, ◌+◌, ◌<◌, ◌∷◌, ◌++◌, [], ℕ, List, Some, None, IfOk, IfSome, MatchBool, MatchOption, MatchResult, IsTrue, true, codes, length, map, slice_get, slice_set, unwrap_or};
+ghost use Rattle.std.specs.Prelude.{◌≡◌, ◌≢◌, ◌+◌, ◌<◌, ◌∷◌, ◌++◌, [], ℕ, List, Some, None, IfOk, IfSome, MatchBool, MatchOption, MatchResult, length, map, slice_get, slice_set, unwrap_or};
 ghost use Rattle.np_frac.specs.Ratio.{Ratio, zero_ratio};
 ghost use Rattle.np_frac.specs.Amount.{amount_of};
 ghost use Rattle.std.specs.Option.{option_to_list};
@@ -8,7 +8,6 @@ ghost use Rattle.csv.specs.Records.{fields_of};
 ghost use Rattle.np_records.specs.Names.{place_of};
 ghost use Rattle.np_records.specs.Records.{field_of};
 ghost use Rattle.netplan_top.specs.Split.{is_end, body_of};
-ghost use Rattle.netplan_top.specs.NetworkForm.{is_kind};
 ghost use Rattle.netplan_top.specs.PlanForm.{IsCost, IsAmountFor, IsClaim, IsPlanText, IsPlanOf};
 ghost use Rattle.netplan_top.specs.ClaimsRead.{table_of, GivesAmount, HasClaims, AreEndedClaims, ReadsClaims};
 ghost use Rattle.netplan_top.specs.Reads.{StopsFor};
@@ -250,3 +249,6 @@ pub(crate) fn read_plan(
         None => Err(Stop::Outside),
     }
 }
+
+#[cfg(test)]
+mod tests;

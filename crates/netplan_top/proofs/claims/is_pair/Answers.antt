@@ -1,4 +1,4 @@
-use Rattle.std.proofs.Common.{◌≡◌, length, true, rules, arith}
+use Rattle.std.proofs.Common.{◌≡◌, length, rules}
 use Rattle.csv.specs.Records.{fields_of}
 use Rattle.np_records.specs.Records.{field_of}
 use Rattle.std.specs.Str.{bytes_eq}

@@ -1,4 +1,4 @@
-use Rattle.std.proofs.Common.{◌≡◌, refl, ◌∙◌}
+use Rattle.std.proofs.Common.{refl, ◌∙◌}
 use Rattle.netplan_top.specs.PlanForm.{flows_given, prices_given}
 use Rattle.netplan_top.proofs.ClaimsTables.{table-amounts}
 use Rattle.netplan_top.proofs.claims.plan_of.Goals as goal

@@ -1,4 +1,4 @@
-use Rattle.std.proofs.Common.{◌≡◌, ◌∷◌, [], ◌∙◌, ap, false, rules, List, ℕ}
+use Rattle.std.proofs.Common.{◌≡◌, ◌∷◌, ◌∙◌, ap, false, rules, List, ℕ}
 use Rattle.netplan_top.specs.Split.{body_of}
 use Rattle.netplan_top.specs.PlanForm.{plan_header, optimal_verdict}
 use Rattle.netplan_top.proofs.ClaimsText.{whole-plan}

@@ -1,4 +1,4 @@
-use Rattle.std.proofs.Common.{◌≡◌, refl, ◌∙◌, rules}
+use Rattle.std.proofs.Common.{refl, ◌∙◌, rules}
 use Rattle.netplan_top.proofs.ClaimsTables.{table-empty}
 use Rattle.netplan_top.proofs.claims.Draft.new.Goals as goal
 
