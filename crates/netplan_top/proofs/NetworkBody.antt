@@ -1,18 +1,18 @@
 -- Reading the body of a network text, record by record.
-use Rattle.std.specs.Prelude.{◌≡◌, ℕ, ◌+◌, ◌<◌, ◌≤◌, ◌||◌, Bool, true, false, not, Option, Some, None, unwrap_or, List, [], ◌∷◌, ◌++◌, length, map, take, drop, suc, zero, codes, slice_index_or}
+use Rattle.std.specs.Prelude.{◌≡◌, ℕ, ◌+◌, ◌<◌, ◌≤◌, true, false, Option, Some, None, List, [], ◌∷◌, ◌++◌, length, map, take, drop, codes, slice_index_or}
 use Rattle.std.specs.List.{AllByRecursion, list_any, filter_map, range_with_len}
-use Rattle.std.proofs.Common.{refl, sym, ap, ◌∙◌, inl, inr, arith, append_assoc, add-one, get_or}
+use Rattle.std.proofs.Common.{refl, sym, ap, ◌∙◌, inl, inr, arith, append_assoc}
 use Rattle.std.proofs.lemmas.Bool.{cases_Bool, cases_eq}
-use Rattle.std.proofs.lemmas.List.{length_push, length-append, length-map, take-append-le, get_or_append_left, take_at, get_or_at, get_or_push, append-nil, drop_at, drop-drop}
+use Rattle.std.proofs.lemmas.List.{length_push, length-append, take-append-le, get_or_append_left, take_at, get_or_at, get_or_push, append-nil, drop_at, drop-drop}
 use Rattle.std.proofs.lemmas.List.Elements.{filter_map-append}
 use Rattle.std.proofs.lemmas.List.Folds.{list_any-append}
 use Rattle.std.proofs.lemmas.List.FromFn.{length-map-range_with_len}
-use Rattle.np_frac.specs.Ratio.{Ratio, zero_ratio}
+use Rattle.np_frac.specs.Ratio.{Ratio}
 use Rattle.np_records.specs.Records.{field_of}
 use Rattle.np_records.specs.Names.{place_of}
 use Rattle.netplan_top.specs.Split.{is_end, up_to_end, body_of}
-use Rattle.netplan_top.specs.NetworkForm.{is_kind, defined_node, defined_arc, node_names, arc_names, IsBody, IsBodyRecord, IsNode, IsSupply, IsArc, given_at, supply_of}
-use Rattle.netplan_top.specs.NetworkTables.{IsTaken, IsNodeTaken, IsArcTaken, HasRoom, Tables, tables_of, supplies, with_record}
+use Rattle.netplan_top.specs.NetworkForm.{is_kind, defined_node, defined_arc, node_names, arc_names, IsBody, IsBodyRecord, given_at, supply_of}
+use Rattle.netplan_top.specs.NetworkTables.{IsTaken, HasRoom, Tables, tables_of, supplies, with_record}
 use Rattle.netplan_top.specs.Reads.{StopsFor}
 use Rattle.netplan_top.specs.declared.network.Network.{Network}
 use Rattle.netplan_top.specs.declared.stop.Stop.{Stop}
@@ -82,45 +82,45 @@ arcs-of rows = refl
 read-more : (rows : List (List (List ℕ))) (r : List (List ℕ)) → IsRead rows → IsTaken (tables_of rows) r → IsRead (rows ++ r ∷ [])
 read-more rows r h taken = by_kind (IsRead (rows ++ r ∷ [])) (tables_of rows) r taken
     (λ t n e.
-      let nodes = nodes-node rows r t in
-      let arcs = arcs-other rows r (node-no_arc r t) in
-      let room : length (node_names rows) < 20000 = rw nodes-of at n.room in
-      let unused : place_of (node_names rows) (field_of r 1) ≡ None = rw nodes-of at n.node.name.unused in
-      let few = h.few_arcs in
-      let size = length_push (node_names rows) (field_of r 1) in
-      record {
-        body = body;
-        fine = rw nodes (all-push (IsFine (node_names rows ++ field_of r 1 ∷ [])) rows r (fine-more (node_names rows) (field_of r 1 ∷ []) rows h.fine) (fine-kept (node_names rows) (field_of r 1 ∷ []) r fine));
-        nodes = rw nodes (distinct-push (node_names rows) (field_of r 1) h.nodes unused);
-        arcs = rw arcs h.arcs;
-        few_nodes = rw nodes (omega arith);
-        few_arcs = rw arcs few;
-      })
+    let nodes = nodes-node rows r t in
+    let arcs = arcs-other rows r (node-no_arc r t) in
+    let room : length (node_names rows) < 20000 = rw nodes-of at n.room in
+    let unused : place_of (node_names rows) (field_of r 1) ≡ None = rw nodes-of at n.node.name.unused in
+    let few = h.few_arcs in
+    let size = length_push (node_names rows) (field_of r 1) in
+    record {
+      body = body;
+      fine = rw nodes (all-push (IsFine (node_names rows ++ field_of r 1 ∷ [])) rows r (fine-more (node_names rows) (field_of r 1 ∷ []) rows h.fine) (fine-kept (node_names rows) (field_of r 1 ∷ []) r fine));
+      nodes = rw nodes (distinct-push (node_names rows) (field_of r 1) h.nodes unused);
+      arcs = rw arcs h.arcs;
+      few_nodes = rw nodes (omega arith);
+      few_arcs = rw arcs few;
+    })
     (λ t s e.
-      let nodes = nodes-other rows r (supply-no_node r t) in
-      let arcs = arcs-other rows r (supply-no_arc r t) in
-      record {
-        body = body;
-        fine = rw nodes (all-push (IsFine (node_names rows)) rows r h.fine fine);
-        nodes = rw nodes h.nodes;
-        arcs = rw arcs h.arcs;
-        few_nodes = rw nodes h.few_nodes;
-        few_arcs = rw arcs h.few_arcs;
-      })
+    let nodes = nodes-other rows r (supply-no_node r t) in
+    let arcs = arcs-other rows r (supply-no_arc r t) in
+    record {
+      body = body;
+      fine = rw nodes (all-push (IsFine (node_names rows)) rows r h.fine fine);
+      nodes = rw nodes h.nodes;
+      arcs = rw arcs h.arcs;
+      few_nodes = rw nodes h.few_nodes;
+      few_arcs = rw arcs h.few_arcs;
+    })
     (λ t a e.
-      let nodes = nodes-other rows r (arc-no_node r t) in
-      let arcs = arcs-arc rows r t in
-      let room : length (arc_names rows) < 100000 = rw arcs-of at a.room in
-      let unused : place_of (arc_names rows) (field_of r 1) ≡ None = rw arcs-of at a.arc.name.unused in
-      let size = length_push (arc_names rows) (field_of r 1) in
-      record {
-        body = body;
-        fine = rw nodes (all-push (IsFine (node_names rows)) rows r h.fine fine);
-        nodes = rw nodes h.nodes;
-        arcs = rw arcs (distinct-push (arc_names rows) (field_of r 1) h.arcs unused);
-        few_nodes = rw nodes h.few_nodes;
-        few_arcs = rw arcs (omega arith);
-      })
+    let nodes = nodes-other rows r (arc-no_node r t) in
+    let arcs = arcs-arc rows r t in
+    let room : length (arc_names rows) < 100000 = rw arcs-of at a.room in
+    let unused : place_of (arc_names rows) (field_of r 1) ≡ None = rw arcs-of at a.arc.name.unused in
+    let size = length_push (arc_names rows) (field_of r 1) in
+    record {
+      body = body;
+      fine = rw nodes (all-push (IsFine (node_names rows)) rows r h.fine fine);
+      nodes = rw nodes h.nodes;
+      arcs = rw arcs (distinct-push (arc_names rows) (field_of r 1) h.arcs unused);
+      few_nodes = rw nodes h.few_nodes;
+      few_arcs = rw arcs (omega arith);
+    })
   where
     here : IsBodyRecord (node_names rows) (arc_names rows) r
     here = rw (nodes-of rows, arcs-of rows) at (taken-body (tables_of rows) r taken)

@@ -1,16 +1,15 @@
 -- The tables of a record more.
-use Rattle.std.specs.Prelude.{◌≡◌, ◌≢◌, ℕ, ◌+◌, ◌<◌, ◌≤◌, ◌==◌, nat_eq, Bool, true, false, Option, Some, None, IsSome, unwrap_or, option_map, List, [], ◌∷◌, ◌++◌, length, map, set, get_or, codes, if◌then◌else◌}
+use Rattle.std.specs.Prelude.{◌≡◌, ℕ, ◌+◌, ◌<◌, ◌==◌, true, false, Option, Some, None, List, [], ◌∷◌, ◌++◌, length, map, set, get_or, codes}
 use Rattle.std.specs.List.{AllByRecursion, filter_map, range_with_len, cons_option}
 use Rattle.std.specs.Option.{option_or}
-use Rattle.std.proofs.Common.{refl, sym, ap, ◌∙◌, inl, inr, arith, append_assoc}
+use Rattle.std.proofs.Common.{refl, sym, ap, ◌∙◌, inl, inr, arith}
 use Rattle.std.proofs.lemmas.Bool.{cases_Bool, cases_eq}
 use Rattle.std.proofs.lemmas.Bool.Decides.{nat_tests}
-use Rattle.std.proofs.lemmas.List.{append-nil, length-map, length_push, same_lists, get_or-set_same, get_or-set_other, length-set, places}
+use Rattle.std.proofs.lemmas.List.{append-nil, length_push, same_lists, get_or-set_same, get_or-set_other, length-set}
 use Rattle.std.proofs.lemmas.List.Elements.{filter_map-append}
 use Rattle.std.proofs.lemmas.List.FromFn.{map-range_with_len_more, get_or-map-range_with_len, length-map-range_with_len}
 use Rattle.np_frac.specs.Ratio.{Ratio}
 use Rattle.np_frac.specs.Amount.{amount_of}
-use Rattle.np_records.specs.Names.{place_of}
 use Rattle.np_records.specs.Records.{field_of}
 use Rattle.np_model.specs.declared.scheme.Flow.{Flow}
 use Rattle.netplan_top.specs.NetworkForm.{is_kind, defined_node, defined_arc, node_names, arc_names, given_at, supply_in, flow_in, place_in, IsSupply}
@@ -120,7 +119,7 @@ tables-node rows r fine t =
     let last : given_at (supplies rows) (length (node_names rows)) ≡ None = given_at-beyond (supplies rows) (length (node_names rows)) (supplies-within (node_names rows) rows fine) in
     let size : length (node_names (rows ++ r ∷ [])) ≡ length (node_names rows) + 1 = rw nodes (length_push (node_names rows) (field_of r 1)) in
     let supply : map (given_at (supplies (rows ++ r ∷ []))) (range_with_len 0 (length (node_names (rows ++ r ∷ [])))) ≡ map (given_at (supplies rows)) (range_with_len 0 (length (node_names rows))) ++ None ∷ [] =
-        rw (given, size, map-range_with_len_more (given_at (supplies rows)) 0 (length (node_names rows)) (length (node_names rows)) (omega arith), last) refl in
+    rw (given, size, map-range_with_len_more (given_at (supplies rows)) 0 (length (node_names rows)) (length (node_names rows)) (omega arith), last) refl in
     same _ _ nodes arcs supply flows
 
 pub tables-supply : (rows : List (List (List ℕ))) (r : List (List ℕ)) → is_kind r (codes "supply") ≡ true → IsSupply (node_names rows) r
@@ -134,7 +133,7 @@ tables-supply rows r t taken =
     let given : supplies (rows ++ r ∷ []) ≡ supplies rows ++ (place_in ns (field_of r 1), amount_of (field_of r 3)) ∷ [] = rw nodes (gives (supply_in ns) rows r _ gift) in
     let flows : filter_map (flow_in (node_names (rows ++ r ∷ []))) (rows ++ r ∷ []) ≡ filter_map (flow_in ns) rows = rw nodes (gives_none (flow_in ns) rows r (rw (supply-no_arc r t) refl)) in
     let supply : map (given_at (supplies (rows ++ r ∷ []))) (range_with_len 0 (length (node_names (rows ++ r ∷ [])))) ≡ set (map (given_at (supplies rows)) (range_with_len 0 (length ns))) (place_in ns (field_of r 1)) (Some (amount_of (field_of r 3))) =
-        rw (given, nodes) (given-more (supplies rows) (length ns) (place_in ns (field_of r 1)) (amount_of (field_of r 3)) (place-within ns (field_of r 1) taken.node)) in
+    rw (given, nodes) (given-more (supplies rows) (length ns) (place_in ns (field_of r 1)) (amount_of (field_of r 3)) (place-within ns (field_of r 1) taken.node)) in
     same _ _ nodes arcs supply flows
 
 pub tables-arc : (rows : List (List (List ℕ))) (r : List (List ℕ)) → is_kind r (codes "arc") ≡ true → tables_of (rows ++ r ∷ []) ≡ with_arc (tables_of rows) r

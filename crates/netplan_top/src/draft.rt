@@ -26,6 +26,7 @@ use std::marker::Model;
 
 // How many nodes and how many arcs a network has at most.
 const MAX_NODES: usize = 20_000;
+
 const MAX_ARCS: usize = 100_000;
 
 /// The names, the supply of each node where one is given, and the flows of the records so far.

@@ -1,7 +1,7 @@
-use Rattle.std.specs.Prelude.{ℕ, ◌≡◌, ◌∷◌, [], Bool, true, false, IsTrue, List, length}
+use Rattle.std.specs.Prelude.{ℕ, ◌≡◌, ◌∷◌, [], true, List, length}
 use Rattle.std.specs.Bool.{Decides}
 use Rattle.std.specs.Str.{bytes_eq}
-use Rattle.std.proofs.Common.{◌∙◌, arith, rules}
+use Rattle.std.proofs.Common.{arith, rules}
 use Rattle.std.proofs.lemmas.Slice.Eq.{bytes_eq-Decides}
 use Rattle.csv.specs.Records.{fields_of}
 use Rattle.np_records.specs.Records.{field_of}
@@ -11,9 +11,10 @@ pair-is : (r : List (List ℕ)) (a b : List ℕ) → length r ≡ 2 → bytes_eq
 pair-is [] a b two first = absurd (omega arith)
 pair-is (x ∷ []) a b two first = absurd (omega arith)
 pair-is (x ∷ y ∷ []) a b two first =
-    let same : x ≡ a = (bytes_eq-Decides x a).0 first in
-    ( (λ t. let too : y ≡ b = (bytes_eq-Decides y b).0 t in cc),
-      (λ e. let too : y ≡ b = cc e in (bytes_eq-Decides y b).1 too) )
+    let same : x ≡ a = (bytes_eq-Decides x a).0 first in (
+      (λ t. let too : y ≡ b = (bytes_eq-Decides y b).0 t in cc),
+      (λ e. let too : y ≡ b = cc e in (bytes_eq-Decides y b).1 too),
+    )
 pair-is (x ∷ y ∷ z ∷ r) a b two first = absurd (omega arith)
 
 pub returns : goal.returns
