@@ -1,18 +1,18 @@
 -- Reading the body of a network text, record by record.
-use Rattle.std.specs.Prelude.{◌≡◌, ℕ, ◌+◌, ◌<◌, ◌≤◌, ◌||◌, Bool, true, false, not, Option, Some, None, unwrap_or, List, [], ◌∷◌, ◌++◌, length, map, take, drop, suc, zero, codes, slice_index_or}
+use Rattle.std.specs.Prelude.{◌≡◌, ℕ, ◌+◌, ◌<◌, ◌≤◌, true, false, Option, Some, None, List, [], ◌∷◌, ◌++◌, length, map, take, drop, codes, slice_index_or}
 use Rattle.std.specs.List.{AllByRecursion, list_any, filter_map, range_with_len}
-use Rattle.std.proofs.Common.{refl, sym, ap, ◌∙◌, inl, inr, arith, append_assoc, add-one, get_or}
+use Rattle.std.proofs.Common.{refl, sym, ap, ◌∙◌, inl, inr, arith, append_assoc}
 use Rattle.std.proofs.lemmas.Bool.{cases_Bool, cases_eq}
-use Rattle.std.proofs.lemmas.List.{length_push, length-append, length-map, take-append-le, get_or_append_left, take_at, get_or_at, get_or_push, append-nil, drop_at, drop-drop}
+use Rattle.std.proofs.lemmas.List.{length_push, length-append, take-append-le, get_or_append_left, take_at, get_or_at, get_or_push, append-nil, drop_at, drop-drop}
 use Rattle.std.proofs.lemmas.List.Elements.{filter_map-append}
 use Rattle.std.proofs.lemmas.List.Folds.{list_any-append}
 use Rattle.std.proofs.lemmas.List.FromFn.{length-map-range_with_len}
-use Rattle.np_frac.specs.Ratio.{Ratio, zero_ratio}
+use Rattle.np_frac.specs.Ratio.{Ratio}
 use Rattle.np_records.specs.Records.{field_of}
 use Rattle.np_records.specs.Names.{place_of}
 use Rattle.netplan_top.specs.Split.{is_end, up_to_end, body_of}
-use Rattle.netplan_top.specs.NetworkForm.{is_kind, defined_node, defined_arc, node_names, arc_names, IsBody, IsBodyRecord, IsNode, IsSupply, IsArc, given_at, supply_of}
-use Rattle.netplan_top.specs.NetworkTables.{IsTaken, IsNodeTaken, IsArcTaken, HasRoom, Tables, tables_of, supplies, with_record}
+use Rattle.netplan_top.specs.NetworkForm.{is_kind, defined_node, defined_arc, node_names, arc_names, IsBody, IsBodyRecord, given_at, supply_of}
+use Rattle.netplan_top.specs.NetworkTables.{IsTaken, HasRoom, Tables, tables_of, supplies, with_record}
 use Rattle.netplan_top.specs.Reads.{StopsFor}
 use Rattle.netplan_top.specs.declared.network.Network.{Network}
 use Rattle.netplan_top.specs.declared.stop.Stop.{Stop}

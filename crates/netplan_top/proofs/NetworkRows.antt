@@ -1,14 +1,13 @@
 -- What each record of a sound body is among all node names.
-use Rattle.std.specs.Prelude.{◌≡◌, ◌≢◌, ℕ, ◌+◌, ◌<◌, ◌≤◌, ◌⊎◌, Bool, true, false, Option, Some, None, IsSome, unwrap_or, option_map, List, [], ◌∷◌, ◌++◌, length, codes, MatchBool}
+use Rattle.std.specs.Prelude.{◌≡◌, ℕ, true, false, List, [], ◌++◌, codes}
 use Rattle.std.specs.Str.{bytes_eq}
-use Rattle.std.proofs.Common.{refl, sym, ap, ◌∙◌, inl, inr}
+use Rattle.std.proofs.Common.{refl, inl, inr}
 use Rattle.std.proofs.lemmas.Bool.{cases_Bool}
 use Rattle.std.proofs.lemmas.Slice.Eq.{bytes_eq-Decides}
-use Rattle.np_records.specs.Names.{place_of}
 use Rattle.np_records.specs.Records.{field_of}
-use Rattle.netplan_top.specs.NetworkForm.{is_kind, IsNewName, IsNode, IsSupply, IsArc, IsBodyRecord, supply_in, flow_in}
+use Rattle.netplan_top.specs.NetworkForm.{is_kind, IsNode, IsSupply, IsArc, IsBodyRecord, supply_in, flow_in}
 use Rattle.netplan_top.specs.NetworkTables.{IsTaken, IsNodeTaken, IsArcTaken, Tables, with_record, with_node, with_supply, with_arc}
-use Rattle.netplan_top.proofs.NetworkPlaces.{some-kept, place-kept, place_in-kept}
+use Rattle.netplan_top.proofs.NetworkPlaces.{some-kept, place-kept}
 
 -- ---- the kinds exclude one another
 

@@ -1,27 +1,23 @@
 -- What the records of a sound body stand for is a valid scheme.
-use Rattle.std.specs.Prelude.{◌≡◌, ◌≢◌, ℕ, ◌+◌, ◌*◌, ◌^◌, ◌<◌, ◌≤◌, Bool, true, false, Option, Some, None, IsSome, IsTrue, unwrap_or, option_map, List, [], ◌∷◌, ◌++◌, length, map, codes, sum_by, ⊤, pos, nat_eq, if◌then◌else◌}
-use Rattle.std.specs.List.{All, AllPass, AllByRecursion, IsDistinct, filter_map, range_with_len, list_any}
+use Rattle.std.specs.Prelude.{◌≡◌, ℕ, ◌+◌, ◌*◌, ◌≤◌, Bool, true, false, Option, Some, None, unwrap_or, List, [], ◌∷◌, length, map, codes, ⊤, pos, nat_eq, if◌then◌else◌}
+use Rattle.std.specs.List.{All, AllPass, AllByRecursion, IsDistinct, filter_map, range_with_len}
 use Rattle.std.specs.Option.{option_or}
 use Rattle.std.specs.Str.{bytes_eq}
 use Rattle.std.proofs.Common.{refl, sym, ap, ◌∙◌, inl, inr, arith, lit<}
 use Rattle.std.proofs.lemmas.Bool.{cases_Bool}
 use Rattle.std.proofs.lemmas.List.{length-map}
-use Rattle.std.proofs.lemmas.List.Elements.{All-nil, All-cons, All-map}
+use Rattle.std.proofs.lemmas.List.Elements.{All-nil, All-cons}
 use Rattle.std.proofs.lemmas.List.Sums.{sum_by-cons}
 use Rattle.std.proofs.lemmas.List.FromFn.{length-map-range_with_len}
-use Rattle.np_frac.specs.Ratio.{Ratio, zero_ratio, whole}
-use Rattle.np_frac.specs.Amount.{amount_of, is_amount, IsAmount}
+use Rattle.np_frac.specs.Ratio.{Ratio, zero_ratio}
+use Rattle.np_frac.specs.Amount.{amount_of, is_amount}
 use Rattle.np_frac.proofs.Amounts.{value_is_amount, whole_amount}
-use Rattle.np_records.specs.Names.{place_of}
 use Rattle.np_records.specs.Records.{field_of}
-use Rattle.np_model.specs.declared.arc.Upper.{Upper}
-use Rattle.np_model.specs.declared.arc.Upper.TheVariants.{Finite, Infinite}
 use Rattle.np_model.specs.declared.scheme.Flow.{Flow}
-use Rattle.np_model.specs.Valid.{IsScheme, IsSound, AreNames, AreReached, is_name, is_amount_or_infinite, has_amounts, expanded_arcs, periods_of}
-use Rattle.np_model.specs.Stages.{IsConvexFrom}
+use Rattle.np_model.specs.Valid.{IsScheme, IsSound, is_name, is_amount_or_infinite, has_amounts, expanded_arcs, periods_of}
 use Rattle.cert_checker.specs.Plain.{IsPlainFlow}
 use Rattle.netplan_top.specs.Fields.{IsWholeAmount, IsBound, bound_of, infinite}
-use Rattle.netplan_top.specs.NetworkForm.{is_kind, defined_node, defined_arc, node_names, arc_names, given_at, supply_in, supply_of, flow_in, place_in, IsArc, IsBody}
+use Rattle.netplan_top.specs.NetworkForm.{is_kind, node_names, arc_names, given_at, supply_in, supply_of, flow_in, IsArc, IsBody}
 use Rattle.netplan_top.specs.NetworkTables.{supplies, link_of}
 use Rattle.netplan_top.proofs.NetworkPlaces.{place-is, place-within, places-differ}
 use Rattle.netplan_top.proofs.NetworkRows.{IsFine}

@@ -11,7 +11,7 @@ use Rattle.np_model.specs.declared.scheme.FlowKind.TheVariants.{Link}
 use Rattle.np_model.specs.declared.scheme.Flow.{Flow}
 use Rattle.netplan_top.specs.declared.draft.Numbers.{Numbers}
 use Rattle.netplan_top.specs.Fields.{IsWholeAmount, IsBound, bound_of}
-use Rattle.netplan_top.specs.NetworkForm.{is_kind, node_names, arc_names, IsNode, IsSupply, IsArc, IsBody, given_at, supply_in, place_in, flow_in}
+use Rattle.netplan_top.specs.NetworkForm.{is_kind, node_names, arc_names, IsNode, IsSupply, IsArc, given_at, supply_in, place_in, flow_in}
 
 -- the names, the supply of each node where one is given, and the flows
 pub record Tables : Type 0 where

@@ -137,3 +137,73 @@ pub(crate) fn read_network(alloc: Global, records: &mut Records) -> Result<Netwo
     let network = finish(alloc, draft)?;
     Ok(network)
 }
+
+#[cfg(test)]
+mod tests {
+    use super::read_network;
+    use crate::stop::Stop;
+    use np_frac::Frac;
+    use np_model::{FlowKind, Upper};
+    use np_records::Records;
+    use std::alloc::Global;
+    use std::test::Fail;
+
+    const TEXT: &[u8] =
+        b"netplan,1\nperiods,1\nnode,a\nsupply,a,*,4\nnode,b\nsupply,b,1,-6\nsupply,a,001,3\narc,ab,a,b,2,0,inf,-5\nend\nmore\n";
+
+    #[test]
+    fn reads_a_network(rt: HostRuntime) -> Result<(), Fail> {
+        let alloc = rt.alloc();
+        let mut records = Records::new(alloc, TEXT);
+        let Ok(network) = read_network(alloc, &mut records) else {
+            return Err(Fail::from("not read"));
+        };
+        assert_eq!(rt; network.scheme.periods, 1);
+        assert_eq!(rt; network.nodes.index_of(b"b"), Some(1));
+        assert_eq!(rt; network.arcs.index_of(b"ab"), Some(0));
+        assert!(rt;
+            network.scheme.supply.as_slice() == [Frac::whole(3), Frac::whole(-6)].as_slice()
+        );
+        let flows = network.scheme.flows.as_slice();
+        assert_eq!(rt; flows.len(), 1);
+        let gain = Frac::whole(2);
+        assert!(rt;
+            flows[0].kind
+                == FlowKind::Link {
+                    from: 0,
+                    to: 1,
+                    gain
+                }
+        );
+        assert!(rt; flows[0].upper == Upper::Infinite);
+        assert!(rt; flows[0].cost == Frac::whole(-5));
+        Ok(())
+    }
+
+    // Whether reading these bytes stops outside the form.
+    fn is_outside(alloc: Global, bytes: &[u8]) -> bool {
+        let mut records = Records::new(alloc, bytes);
+        match read_network(alloc, &mut records) {
+            Err(Stop::Outside) => true,
+            _ => false,
+        }
+    }
+
+    #[test]
+    fn stops_outside(rt: HostRuntime) -> Result<(), Fail> {
+        let cases: [&[u8]; 8] = [
+            b"",
+            b"netplan,1\nperiods,2\nend\n",
+            b"netplan,1\nperiods,1\nnode,a\n",
+            b"netplan,1\nperiods,1\nnode,a\nnode,a\nend\n",
+            b"netplan,1\nperiods,1\nsupply,a,1,0\nnode,a\nend\n",
+            b"netplan,1\nperiods,1\nnode,a\narc,x,a,a,1,0,1,1\nend\n",
+            b"netplan,1\nperiods,1\nnode,a\nnode,b\narc,x,a,b,0,0,1,1\nend\n",
+            b"netplan,1\nperiods,1\nnode,a\nnode,b\narc,x,a,b,1,2,1,1\nend\n",
+        ];
+        for bytes in cases {
+            assert!(rt; is_outside(rt.alloc(), bytes), "at {bytes:?}");
+        }
+        Ok(())
+    }
+}

@@ -1,7 +1,7 @@
-use Rattle.std.specs.Prelude.{ℕ, ◌≡◌, ◌∷◌, [], Bool, true, false, IsTrue, List, length}
+use Rattle.std.specs.Prelude.{ℕ, ◌≡◌, ◌∷◌, [], true, List, length}
 use Rattle.std.specs.Bool.{Decides}
 use Rattle.std.specs.Str.{bytes_eq}
-use Rattle.std.proofs.Common.{◌∙◌, arith, rules}
+use Rattle.std.proofs.Common.{arith, rules}
 use Rattle.std.proofs.lemmas.Slice.Eq.{bytes_eq-Decides}
 use Rattle.csv.specs.Records.{fields_of}
 use Rattle.np_records.specs.Records.{field_of}

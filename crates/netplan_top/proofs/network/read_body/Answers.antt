@@ -2,8 +2,7 @@ use Rattle.std.proofs.Common.{◌≡◌, ◌∷◌, true, false, rules}
 use Rattle.std.proofs.lemmas.Result.{err_from_is_err_and}
 use Rattle.csv.specs.Records.{fields_of}
 use Rattle.netplan_top.specs.Split.{is_end}
-use Rattle.netplan_top.specs.NetworkTables.{IsTaken, with_record}
-use Rattle.netplan_top.proofs.NetworkBody.{so_far-none, so_far-more, so_far-end, so_far-out, so_far-room, stops-refused}
+use Rattle.netplan_top.proofs.NetworkBody.{so_far-none, so_far-more, so_far-end, so_far-room, stops-refused}
 use Rattle.netplan_top.proofs.network.read_body.Goals as goal
 
 pub rows-init : goal.rows-init
