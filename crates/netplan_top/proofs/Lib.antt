@@ -1,4 +1,3 @@
-pub mod Splits
 pub mod AnswerFacts
 pub mod NetworkPlaces
 pub mod NetworkRows

@@ -13,6 +13,7 @@ ghost use Rattle.netplan_top.specs.ClaimsRead.{table_of, GivesAmount, HasClaims,
 ghost use Rattle.netplan_top.specs.Reads.{StopsFor};
 
 use crate::fields::{is_only_period, whole_amount};
+use crate::rows::{is_end, read_pair};
 use crate::stop::Stop;
 use np_frac::{Frac, Memory};
 use np_model::{Entries, Fracs, Log, Plan, Verdict};
@@ -25,44 +26,6 @@ struct Draft {
     cost: Option<Frac>,
     flows: Vec<Option<Frac>>,
     prices: Vec<Option<Frac>>,
-}
-
-// Whether the record is `end`.
-fn is_end(row: &ByteRecord) -> bool
-    ensures { result ≡ is_end (fields_of row.now) }
-{
-    row.len() == 1 && field(row, 0) == b"end".as_slice()
-}
-
-// Whether the record has these two fields, and no other.
-fn is_pair(row: &ByteRecord, first: &[u8], second: &[u8]) -> bool
-    ensures { MatchBool result (fields_of row.now ≡ first.now ∷ second.now ∷ [])
-        (¬ (fields_of row.now ≡ first.now ∷ second.now ∷ [])) }
-{
-    if row.len() != 2 {
-        return false;
-    }
-    if field(row, 0) != first {
-        return false;
-    }
-    field(row, 1) == second
-}
-
-// Reads the record of these two fields.
-fn read_pair(
-    records: &mut Records<'_>,
-    row: &mut ByteRecord,
-    first: &[u8],
-    second: &[u8],
-) -> Result<(), Stop>
-    ensures { MatchResult result
-        (λ _. records.old ≡ (first.now ∷ second.now ∷ []) ∷ records.new)
-        (λ stop. StopsFor stop (¬ (slice_get records.old 0 ≡ Some (first.now ∷ second.now ∷ [])))) }
-{
-    if !records.read(row)? || !is_pair(row, first, second) {
-        return Err(Stop::Outside);
-    }
-    Ok(())
 }
 
 // The place of the name in the record, and the amount for it.

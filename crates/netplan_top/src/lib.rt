@@ -7,6 +7,7 @@ mod draft;
 mod fields;
 mod input;
 mod network;
+mod rows;
 mod stop;
 mod texts;
 mod top;

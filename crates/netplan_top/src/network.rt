@@ -8,6 +8,7 @@ ghost use Rattle.netplan_top.specs.NetworkForm.{IsNetwork};
 ghost use Rattle.netplan_top.specs.NetworkRead.{IsNetworkRead, HasHead, HasBody, IsBodyRead, AreValid, IsMadeOf, amounts};
 
 use crate::draft::Draft;
+use crate::rows::{is_end, read_pair};
 use crate::stop::Stop;
 use np_frac::{Frac, Memory};
 use np_model::{Flows, Fracs, Name, Names, Scheme};
@@ -22,23 +23,6 @@ pub(crate) struct Network {
     pub arcs: NameTable,
 }
 
-// Whether the record has these two fields and no other.
-fn is_pair(row: &ByteRecord, first: &[u8], second: &[u8]) -> bool
-    ensures { IsTrue result ↔ (fields_of row.now ≡ first.now ∷ second.now ∷ []) }
-{
-    if row.len() != 2 || field(row, 0) != first {
-        return false;
-    }
-    field(row, 1) == second
-}
-
-// Whether the record is the `end` of a text.
-fn is_end(row: &ByteRecord) -> bool
-    ensures { result ≡ is_end (fields_of row.now) }
-{
-    row.len() == 1 && field(row, 0) == b"end".as_slice()
-}
-
 // Reads the two records at the head of a network text.
 fn read_head(alloc: Global, records: &mut Records) -> Result<(), Stop>
     ensures { MatchResult result
@@ -46,13 +30,8 @@ fn read_head(alloc: Global, records: &mut Records) -> Result<(), Stop>
         (λ stop. StopsFor stop (¬ (HasHead records.old))) }
 {
     let mut row = ByteRecord::new(alloc);
-    if !records.read(&mut row)? || !is_pair(&row, b"netplan", b"1") {
-        return Err(Stop::Outside);
-    }
-    if !records.read(&mut row)? || !is_pair(&row, b"periods", b"1") {
-        return Err(Stop::Outside);
-    }
-    Ok(())
+    read_pair(records, &mut row, b"netplan", b"1")?;
+    read_pair(records, &mut row, b"periods", b"1")
 }
 
 // Reads the records of the body, and the `end`.

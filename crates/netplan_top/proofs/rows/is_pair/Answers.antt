@@ -3,7 +3,7 @@ use Rattle.csv.specs.Records.{fields_of}
 use Rattle.np_records.specs.Records.{field_of}
 use Rattle.std.specs.Str.{bytes_eq}
 use Rattle.netplan_top.proofs.ClaimsDraft.{pair-of}
-use Rattle.netplan_top.proofs.claims.is_pair.Goals as goal
+use Rattle.netplan_top.proofs.rows.is_pair.Goals as goal
 
 pub returns : goal.returns
 returns c =
