@@ -1,11 +1,9 @@
 -- The reduced costs of a flow without bands, by its one segment.
-use Rattle.std.specs.Prelude.{◌≡◌, ℕ, ◌&&◌, ◌||◌, not, Bool, true, false, if◌then◌else◌, Option, None, Ok, List, []}
-use Rattle.std.proofs.Common.{refl, sym}
+use Rattle.std.specs.Prelude.{◌≡◌, ℕ, ◌&&◌, ◌||◌, not, Bool, true, false, if◌then◌else◌, None, Ok, List, []}
+use Rattle.std.proofs.Common.{refl}
 use Rattle.np_frac.specs.Ratio.{Ratio, zero_ratio, is_below}
 use Rattle.np_model.specs.declared.scheme.Flow.{Flow}
-use Rattle.np_model.specs.declared.plan.CheckRow.TheVariants.{C3}
-use Rattle.np_model.specs.Stages.{Segment, segments}
-use Rattle.cert_checker.specs.Walk.{tested, refused_if, or_then, is_past, is_under, price_of, left_test, right_test, reduced_clause}
+use Rattle.cert_checker.specs.Walk.{refused_if, or_then, is_past, is_under, price_of, reduced_clause}
 use Rattle.cert_checker.specs.Plain.{plain_ends, plain_stage}
 use Rattle.cert_checker.specs.Sums.{sign_clause}
 use Rattle.cert_checker.specs.declared.answer.CheckRefusal.{CheckRefusal}

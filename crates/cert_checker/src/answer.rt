@@ -6,25 +6,38 @@ use np_model::CheckRow;
 /// A clause of the walk.
 #[derive(Clone, Copy, Debug, PartialEq, Eq)]
 pub enum Clause {
+    /// The flows at a node balance its supply.
     Balance,
+    /// A flow is within its bounds.
     Bound,
+    /// The reduced cost of a flow has the sign that its amount asks for.
     Reduced,
+    /// The flows cost what the plan says.
     Cost,
+    /// A flow with a reduced cost below 0 has an upper bound, where all costs are taken as 0.
     Upper,
+    /// The gap of the prices is above 0, and is what the plan says.
     Gap,
+    /// An amount of the ray is not below 0.
     RaySign,
+    /// A flow along which the ray runs has no upper bound.
     RayUpper,
+    /// The ray balances at a node.
     RayBalance,
+    /// The cost of the ray is below 0.
     RayCost,
+    /// A plan whose verdict is that the budget ended or a number did not fit shows nothing.
     Uncertified,
 }
 
-/// What a plan was shown to be: a least-cost plan with its cost, that there is none with the gap of the prices, or
-/// that none is least.
+/// What a plan was shown to be.
 #[derive(Clone, Copy, Debug, PartialEq, Eq)]
 pub enum Checked {
+    /// A least-cost plan, with its cost.
     Optimal(Frac),
+    /// There is no plan, as prices with this gap show.
     Infeasible(Frac),
+    /// Every cost is undercut by some plan.
     Unbounded,
 }
 

@@ -16,7 +16,7 @@ use np_frac::{Frac, Memory, Past};
 use np_model::{CheckRow, Ends, Flow, FlowKind};
 use std::alloc::Global;
 
-/// The ends of a flow within the only period.
+/// The ends of a flow within the only period. (A hold has none there, and what is answered for it is not used.)
 pub fn ends_of(kind: FlowKind) -> Ends
     ensures { result ≡ plain_ends kind }
 {
@@ -32,7 +32,7 @@ pub fn ends_of(kind: FlowKind) -> Ends
     }
 }
 
-// What leaves a node more.
+// The running balance after more flow out of the node.
 fn with_outflow(running: Result<Frac, Past>, amount: Frac) -> Result<Frac, Past>
     ensures { result ≡ running ▷ (λ sum. plus_of sum amount) }
 {
@@ -40,7 +40,7 @@ fn with_outflow(running: Result<Frac, Past>, amount: Frac) -> Result<Frac, Past>
     sum.plus(amount)
 }
 
-// What reaches a node from outside.
+// The running balance after flow from outside.
 fn with_inflow(running: Result<Frac, Past>, amount: Frac) -> Result<Frac, Past>
     ensures { result ≡ running ▷ (λ sum. minus_of sum amount) }
 {
@@ -48,7 +48,7 @@ fn with_inflow(running: Result<Frac, Past>, amount: Frac) -> Result<Frac, Past>
     sum.minus(amount)
 }
 
-// What reaches a node over an arc with a gain.
+// The running balance after flow that arrives over an arc with a gain.
 fn with_gained(running: Result<Frac, Past>, gain: Frac, amount: Frac) -> Result<Frac, Past>
     ensures { result ≡ running ▷ (λ sum. times_of gain amount ▷ λ gained. minus_of sum gained) }
 {

@@ -1,5 +1,5 @@
-//! The checker: whether a plan is what it claims to be. It stands on the numbers and the model alone, so a planner
-//! who distrusts everything else reads these three crates.
+//! The checker: whether a plan is what it claims to be. It stands on the fractions and the model alone, so a planner
+//! who distrusts everything else reads np_frac, np_model and this crate.
 #![tactic(auto)]
 
 mod answer;

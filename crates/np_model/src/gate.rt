@@ -3,7 +3,9 @@
 /// A point of a worker's way: before it takes a piece, or with its pieces in hand.
 #[derive(Clone, Copy, Debug, PartialEq, Eq)]
 pub enum Spot {
+    /// It has seen where its pieces are, and has taken none.
     Seen,
+    /// It has its pieces in hand.
     Held,
 }
 

@@ -25,8 +25,8 @@ pub fn falls()
     ensures { Falls }
 {}
 
-/// Weak duality for convex costs: where amounts are feasible and potentials show them optimal segment by segment, no
-/// feasible list of ratios costs less.
+/// Weak duality for convex costs: where the bounds of the staged arcs are in order and their slopes do not fall, amounts
+/// are feasible, and potentials show them optimal segment by segment, no feasible list of ratios costs less.
 pub fn convex_duality()
     ensures { StagesDuality }
 {}

@@ -15,15 +15,18 @@ pub enum Verdict {
     Unbounded,
     /// The pivot budget ended.
     Budget,
-    /// A number passed 128 bits.
+    /// An exact number did not fit a fraction of 128 bits.
     Overflow,
 }
 
 /// Where an arc stands against the basis.
 #[derive(Clone, Copy, Debug, PartialEq, Eq)]
 pub enum Mark {
+    /// Outside the basis, at its lower bound.
     Lower,
+    /// Outside the basis, at its upper bound.
     Upper,
+    /// In the basis.
     Basic,
 }
 
@@ -61,25 +64,40 @@ pub struct Log {
 /// A row of the solver's arithmetic.
 #[derive(Clone, Copy, Debug, PartialEq, Eq)]
 pub enum Row {
+    /// The residual of a node: its supply less what the lower bounds carry away.
     A1,
+    /// The reduced cost of an arc.
     A2,
+    /// The products of the gains round a cycle.
     A3,
+    /// The direction of the flows when an arc enters.
     A4,
+    /// How far a direction can be followed.
     A5,
+    /// The flows after a step.
     A6,
+    /// The potentials of a basis.
     A7,
+    /// The sums of the finished plan, which the checker makes too.
     A8,
 }
 
 /// A row of the checker's arithmetic.
 #[derive(Clone, Copy, Debug, PartialEq, Eq)]
 pub enum CheckRow {
+    /// The amount of a staged arc, from the flows of its segments.
     C0,
+    /// The balance of the flows at a node.
     C1,
+    /// The ends of the segments of a staged arc.
     C2,
+    /// The reduced cost of a staged arc at a slope.
     C3,
+    /// The cost of the flows.
     C4,
+    /// The gap of the prices.
     C5,
+    /// The balance and the cost of the ray.
     C6,
 }
 
@@ -92,7 +110,7 @@ pub enum Place {
     Check(CheckRow),
 }
 
-/// The first operation that passed 128 bits.
+/// An operation whose exact result does not fit a fraction of 128 bits, with its row and place.
 #[derive(Clone, Copy, Debug, PartialEq, Eq)]
 pub struct Overflow {
     pub row: Row,

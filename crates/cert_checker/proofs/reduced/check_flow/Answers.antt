@@ -1,4 +1,4 @@
-use Rattle.std.proofs.Common.{◌∙◌, ap, sym, subst}
+use Rattle.std.proofs.Common.{◌∙◌, ap, sym}
 use Rattle.cert_checker.specs.Walk.{passes_unless}
 use Rattle.cert_checker.proofs.Signs.{reduced_sign}
 use Rattle.cert_checker.proofs.reduced.check_flow.Goals as goal
