@@ -3,7 +3,7 @@ use Rattle.std.specs.Prelude.{◌≡◌, ℕ, ◌+◌, ◌<◌, ◌≤◌, Optio
 use Rattle.std.proofs.Common.{refl, sym, ap, subst, ◌∙◌, arith, get_or, take, add-one}
 use Rattle.std.proofs.lemmas.List.{take_all, take-append-drop}
 use Rattle.std.proofs.Math.Seq.{take-suc}
-use Rattle.cert_checker.specs.Walk.{or_then, first_refusal, accepted_unless, passes_unless, UnlessMemory}
+use Rattle.cert_checker.specs.Walk.{or_then, first_refusal, accepted_unless, goes_on_unless, UnlessMemory}
 use Rattle.cert_checker.specs.declared.answer.CheckRefusal.{CheckRefusal}
 use Rattle.cert_checker.specs.declared.answer.CheckRefusal.TheVariants as refusal
 
@@ -42,23 +42,23 @@ pub first_each : {A : Type 0} (f g : A → Option CheckRefusal) (xs : List A) �
 first_each f g [] h = refl
 first_each f g (x ∷ xs) h = rw (h x, first_each f g xs h) refl
 
-accepted_ok : (o : Option CheckRefusal) (u : Unit {0}) (res : Result (Unit {0}) CheckRefusal) → res ≡ passes_unless o → res ≡ Ok u → o ≡ None
+accepted_ok : (o : Option CheckRefusal) (u : Unit {0}) (res : Result (Unit {0}) CheckRefusal) → res ≡ goes_on_unless o → res ≡ Ok u → o ≡ None
 accepted_ok None u res e f = refl
 accepted_ok (Some r) u res e f = absurd (cc (e, f))
 
-accepted_err : (o : Option CheckRefusal) (r : CheckRefusal) (res : Result (Unit {0}) CheckRefusal) → res ≡ passes_unless o → res ≡ Err r → o ≡ Some r
+accepted_err : (o : Option CheckRefusal) (r : CheckRefusal) (res : Result (Unit {0}) CheckRefusal) → res ≡ goes_on_unless o → res ≡ Err r → o ≡ Some r
 accepted_err None r res e f = absurd (cc (e, f))
 accepted_err (Some s) r res e f = cc (e, f)
 
 -- a loop that tests one element after the other, and stops at the first refusal
 module _ {A : Type 0} (f : A → Option CheckRefusal) (xs : List A) (i : ℕ) (y : A) (res : Result (Unit {0}) CheckRefusal) where
-  pub goes_on : (u : Unit {0}) → i < length xs → get_or xs i y ≡ y → first_refusal f (take i xs) ≡ None → res ≡ passes_unless (f y) → res ≡ Ok u → first_refusal f (take (i + 1) xs) ≡ None
+  pub goes_on : (u : Unit {0}) → i < length xs → get_or xs i y ≡ y → first_refusal f (take i xs) ≡ None → res ≡ goes_on_unless (f y) → res ≡ Ok u → first_refusal f (take (i + 1) xs) ≡ None
   goes_on u h e so_far here ok = first_more f xs i y h e so_far (accepted_ok (f y) u res here ok)
 
-  pub stops : (r : CheckRefusal) → i < length xs → get_or xs i y ≡ y → first_refusal f (take i xs) ≡ None → res ≡ passes_unless (f y) → res ≡ Err r → Err r ≡ passes_unless (first_refusal f xs)
+  pub stops : (r : CheckRefusal) → i < length xs → get_or xs i y ≡ y → first_refusal f (take i xs) ≡ None → res ≡ goes_on_unless (f y) → res ≡ Err r → Err r ≡ goes_on_unless (first_refusal f xs)
   stops r h e so_far here err = rw (first_found f xs i y r h e so_far (accepted_err (f y) r res here err)) refl
 
-pub finds_none : {A : Type 0} (f : A → Option CheckRefusal) (xs : List A) (i : ℕ) → length xs ≤ i → first_refusal f (take i xs) ≡ None → Ok tt ≡ passes_unless (first_refusal f xs)
+pub finds_none : {A : Type 0} (f : A → Option CheckRefusal) (xs : List A) (i : ℕ) → length xs ≤ i → first_refusal f (take i xs) ≡ None → Ok tt ≡ goes_on_unless (first_refusal f xs)
 finds_none f xs i h so_far = rw (first_none f xs i h so_far) refl
 
 -- an answer that is the one that is meant
@@ -71,10 +71,10 @@ as_meant (Err (refusal.Past row past)) meant e = e
 -- ---- one part of the walk after the other
 
 -- a refusal of the first part is that of the whole
-pub first_part : (a b : Option CheckRefusal) (r : CheckRefusal) (res : Result (Unit {0}) CheckRefusal) → UnlessMemory res (passes_unless a) → res ≡ Err r → UnlessMemory (Err r) (passes_unless (or_then a b))
-first_part a b r res h e = told a b r (subst (λ (z : Result (Unit {0}) CheckRefusal). UnlessMemory z (passes_unless a)) e h)
+pub first_part : (a b : Option CheckRefusal) (r : CheckRefusal) (res : Result (Unit {0}) CheckRefusal) → UnlessMemory res (goes_on_unless a) → res ≡ Err r → UnlessMemory (Err r) (goes_on_unless (or_then a b))
+first_part a b r res h e = told a b r (subst (λ (z : Result (Unit {0}) CheckRefusal). UnlessMemory z (goes_on_unless a)) e h)
   where
-    told : (a b : Option CheckRefusal) (r : CheckRefusal) → UnlessMemory (Err r) (passes_unless a) → UnlessMemory (Err r) (passes_unless (or_then a b))
+    told : (a b : Option CheckRefusal) (r : CheckRefusal) → UnlessMemory (Err r) (goes_on_unless a) → UnlessMemory (Err r) (goes_on_unless (or_then a b))
     told a b refusal.Memory h = tt
     told None b (refusal.Reject clause name period) h = absurd (cc h)
     told (Some s) b (refusal.Reject clause name period) h = h
@@ -82,21 +82,21 @@ first_part a b r res h e = told a b r (subst (λ (z : Result (Unit {0}) CheckRef
     told (Some s) b (refusal.Past row past) h = h
 
 -- a part that passes has none
-pub part_passes : (a : Option CheckRefusal) (u : Unit {0}) (res : Result (Unit {0}) CheckRefusal) → UnlessMemory res (passes_unless a) → res ≡ Ok u → a ≡ None
-part_passes a u res h e = told a u (subst (λ (z : Result (Unit {0}) CheckRefusal). UnlessMemory z (passes_unless a)) e h)
+pub part_passes : (a : Option CheckRefusal) (u : Unit {0}) (res : Result (Unit {0}) CheckRefusal) → UnlessMemory res (goes_on_unless a) → res ≡ Ok u → a ≡ None
+part_passes a u res h e = told a u (subst (λ (z : Result (Unit {0}) CheckRefusal). UnlessMemory z (goes_on_unless a)) e h)
   where
-    told : (a : Option CheckRefusal) (u : Unit {0}) → UnlessMemory (Ok u) (passes_unless a) → a ≡ None
+    told : (a : Option CheckRefusal) (u : Unit {0}) → UnlessMemory (Ok u) (goes_on_unless a) → a ≡ None
     told None u h = refl
     told (Some r) u h = absurd (cc h)
 
-pub next_part : (a b : Option CheckRefusal) (res : Result (Unit {0}) CheckRefusal) → a ≡ None → UnlessMemory res (passes_unless b) → UnlessMemory res (passes_unless (or_then a b))
+pub next_part : (a b : Option CheckRefusal) (res : Result (Unit {0}) CheckRefusal) → a ≡ None → UnlessMemory res (goes_on_unless b) → UnlessMemory res (goes_on_unless (or_then a b))
 next_part a b res e h = rw e h
 
 -- the answer of the whole walk
-pub whole_refused : {A : Type 0} (w : Option CheckRefusal) (x : A) (r : CheckRefusal) (res : Result (Unit {0}) CheckRefusal) → UnlessMemory res (passes_unless w) → res ≡ Err r → UnlessMemory (Err r) (accepted_unless w x)
-whole_refused {A} w x r res h e = told w r (subst (λ (z : Result (Unit {0}) CheckRefusal). UnlessMemory z (passes_unless w)) e h)
+pub whole_refused : {A : Type 0} (w : Option CheckRefusal) (x : A) (r : CheckRefusal) (res : Result (Unit {0}) CheckRefusal) → UnlessMemory res (goes_on_unless w) → res ≡ Err r → UnlessMemory (Err r) (accepted_unless w x)
+whole_refused {A} w x r res h e = told w r (subst (λ (z : Result (Unit {0}) CheckRefusal). UnlessMemory z (goes_on_unless w)) e h)
   where
-    told : (w : Option CheckRefusal) (r : CheckRefusal) → UnlessMemory (Err r) (passes_unless w) → UnlessMemory (Err r) (accepted_unless w x)
+    told : (w : Option CheckRefusal) (r : CheckRefusal) → UnlessMemory (Err r) (goes_on_unless w) → UnlessMemory (Err r) (accepted_unless w x)
     told w refusal.Memory h = tt
     told None (refusal.Reject clause name period) h = absurd (cc h)
     told (Some s) (refusal.Reject clause name period) h = let same : refusal.Reject clause name period ≡ s = cc h in ap Err same

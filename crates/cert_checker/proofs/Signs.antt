@@ -3,7 +3,7 @@ use Rattle.std.specs.Prelude.{◌≡◌, ℕ, ◌&&◌, ◌||◌, not, Bool, tru
 use Rattle.std.proofs.Common.{refl}
 use Rattle.np_frac.specs.Ratio.{Ratio, zero_ratio, is_below}
 use Rattle.np_model.specs.declared.scheme.Flow.{Flow}
-use Rattle.cert_checker.specs.Walk.{refused_if, or_then, is_past, is_under, price_of, reduced_clause}
+use Rattle.cert_checker.specs.Walk.{refused_if, or_then, is_above, is_under, price_of, reduced_clause}
 use Rattle.cert_checker.specs.Plain.{plain_ends, plain_stage}
 use Rattle.cert_checker.specs.Sums.{sign_clause}
 use Rattle.cert_checker.specs.declared.answer.CheckRefusal.{CheckRefusal}
@@ -20,7 +20,7 @@ by_tests false true below false r = refl
 by_tests false false below above r = refl
 
 pub reduced_sign : (p : List Ratio) (number : ℕ) (f : Flow) (x r : Ratio) (fall rise : Bool) → f.bands ≡ [] → price_of p (plain_ends f.kind) f.cost ≡ Ok r
-    → fall ≡ (is_below f.lower x && not (is_past x f.upper)) → rise ≡ (not (is_below x f.lower) && is_under x f.upper)
+    → fall ≡ (is_below f.lower x && not (is_above x f.upper)) → rise ≡ (not (is_below x f.lower) && is_under x f.upper)
     → reduced_clause p (plain_stage (number, f), x) ≡ sign_clause number fall rise r
 reduced_sign p number f x r fall rise none found falls rises =
-    rw (none, found, falls, rises) (by_tests (is_below f.lower x && not (is_past x f.upper)) (not (is_below x f.lower) && is_under x f.upper) (is_below zero_ratio r) (is_below r zero_ratio) _)
+    rw (none, found, falls, rises) (by_tests (is_below f.lower x && not (is_above x f.upper)) (not (is_below x f.lower) && is_under x f.upper) (is_below zero_ratio r) (is_below r zero_ratio) _)

@@ -13,7 +13,7 @@ use Rattle.np_model.specs.declared.arc.Upper.TheVariants.{Finite, Infinite}
 use Rattle.np_model.specs.declared.plan.CheckRow.{CheckRow}
 use Rattle.np_model.specs.Network.{ReducedByEnds, IsAtMost, IsWithin, at, balance}
 use Rattle.np_model.specs.Stages.{Stage, Segment, segments, hull, stages_cost, StagesFeasible, StagesLeast, StagesShow, StagesDuality, IsUnder, IsKink, IsValid}
-use Rattle.cert_checker.specs.Walk.{tested, refused_if, or_then, first_refusal, balance_of, balance_clause, bound_clause, end_of, is_past, is_under, price_of, left_test, right_test, reduced_clause, cost_of, cost_clause, reject_node}
+use Rattle.cert_checker.specs.Walk.{tested, refused_if, or_then, first_refusal, balance_of, balance_clause, bound_clause, end_of, is_above, is_under, price_of, left_test, right_test, reduced_clause, cost_of, cost_clause, reject_node}
 use Rattle.cert_checker.specs.Plain.{AreNodes}
 use Rattle.cert_checker.specs.declared.answer.CheckRefusal.{CheckRefusal}
 use Rattle.cert_checker.proofs.Exact.{balance_exact, end_exact, price_exact, cost_exact}
@@ -64,24 +64,24 @@ within_hulls (s ∷ stages) (x ∷ xs) h = (h.0, within_hulls stages xs h.1)
 
 -- ---- bounds
 
-not_past : (x : Ratio) (u : Upper) → is_past x u ≡ false → IsAtMost x u
-not_past x (Finite u) e = is_below_false u x e
-not_past x Infinite e = tt
+not_above : (x : Ratio) (u : Upper) → is_above x u ≡ false → IsAtMost x u
+not_above x (Finite u) e = is_below_false u x e
+not_above x Infinite e = tt
 
 bound_holds : (s : Stage) (x : Ratio) → bound_clause (s, x) ≡ None → IsWithin (hull s) x
 bound_holds s x e =
     let found = tested_none _ (end_of s.upper s.bands) _ e in
-    let tests = or_false (is_below x s.lower) (is_past x found.0) (refused_none _ _ found.2) in
-    (is_below_false x s.lower tests.0, subst (λ (u : Upper). IsAtMost x u) (end_exact s.upper s.bands found.0 found.1) (not_past x found.0 tests.1))
+    let tests = or_false (is_below x s.lower) (is_above x found.0) (refused_none _ _ found.2) in
+    (is_below_false x s.lower tests.0, subst (λ (u : Upper). IsAtMost x u) (end_exact s.upper s.bands found.0 found.1) (not_above x found.0 tests.1))
 
 -- ---- reduced costs
 
 is_below_not : (a b : Ratio) → b ≤ᵣ a → is_below a b ≡ false
 is_below_not a b k = elim (is_below a b) as (λ t. is_below a b ≡ t → t ≡ false) [ true ↦ λ e. absurd (clash (is_below_true a b e) k) | false ↦ λ e. refl ] refl
 
-is_past_not : (x : Ratio) (u : Upper) → IsAtMost x u → is_past x u ≡ false
-is_past_not x Infinite h = refl
-is_past_not x (Finite u) h = is_below_not u x h
+is_above_not : (x : Ratio) (u : Upper) → IsAtMost x u → is_above x u ≡ false
+is_above_not x Infinite h = refl
+is_above_not x (Finite u) h = is_below_not u x h
 
 is_below_so : (a b : Ratio) → a <ᵣ b → is_below a b ≡ true
 is_below_so a b k = elim (is_below a b) as (λ t. is_below a b ≡ t → t ≡ true) [ true ↦ λ e. refl | false ↦ λ e. absurd (clash k (is_below_false a b e)) ] refl
@@ -93,7 +93,7 @@ is_under_so x Infinite h = refl
 kink_holds : ReducedByEnds → (p : List Ratio) (s : Stage) (x : Ratio) (g : Segment) → AreNodes (length p) s.ends → left_test p s x g ≡ None → right_test p s x g ≡ None → IsKink p s.ends x g
 kink_holds law p s x g nodes left right = (
   λ above inside.
-      let found = tested_none _ (price_of p s.ends g.slope) _ (rw (is_below_so g.start x above, is_past_not x g.end inside) at left) in
+      let found = tested_none _ (price_of p s.ends g.slope) _ (rw (is_below_so g.start x above, is_above_not x g.end inside) at left) in
       subst (λ r. r ≤ᵣ zero_ratio) (price_exact law p s.ends g.slope found.0 nodes found.1) (is_below_false zero_ratio found.0 (refused_none _ _ found.2)),
   λ from under.
       let found = tested_none _ (price_of p s.ends g.slope) _ (rw (is_below_not x g.start from, is_under_so x g.end under) at right) in

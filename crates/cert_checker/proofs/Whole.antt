@@ -14,7 +14,7 @@ use Rattle.np_model.specs.Stages.{Stage, StagesDuality, IsValid}
 use Rattle.np_model.specs.Schemes.{staged}
 use Rattle.np_model.specs.Valid.{IsSound}
 use Rattle.np_model.specs.Fits.{FitsAs, PlanFits, OptimalFits}
-use Rattle.cert_checker.specs.Walk.{walk, walk_refusal, amount_of, first_refusal, balance_clause, bound_clause, reduced_clause, passes_unless, UnlessMemory}
+use Rattle.cert_checker.specs.Walk.{walk, walk_refusal, amount_of, first_refusal, balance_clause, bound_clause, reduced_clause, goes_on_unless, UnlessMemory}
 use Rattle.cert_checker.specs.Plain.{AreNodes, IsPlainFlow, IsPlain, plain_stage, plain_stages}
 use Rattle.cert_checker.specs.Proves.{ProvesOptimal}
 use Rattle.cert_checker.specs.Sums.{plain_refusal}
@@ -80,13 +80,13 @@ proves law duality scheme plan plain fits none =
 
 -- what the walk over the lists answers is what the walk answers
 pub refused : (scheme : Scheme) (plan : Plan) (r : CheckRefusal) (res : Result (Unit {0}) CheckRefusal) → IsPlain scheme
-    → UnlessMemory res (passes_unless (plain_refusal (length scheme.nodes) scheme.supply scheme.flows plan.flows plan.prices (amount_of plan))) → res ≡ Err r → UnlessMemory (Err r) (walk scheme plan)
+    → UnlessMemory res (goes_on_unless (plain_refusal (length scheme.nodes) scheme.supply scheme.flows plan.flows plan.prices (amount_of plan))) → res ≡ Err r → UnlessMemory (Err r) (walk scheme plan)
 unfolding walk
 refused scheme plan r res plain h e =
     whole_refused (walk_refusal scheme plan) (checked.Optimal (amount_of plan)) r res (rw (refusal_is scheme plan plain) h) e
 
 pub passed : (scheme : Scheme) (plan : Plan) (u : Unit {0}) (res : Result (Unit {0}) CheckRefusal) → IsPlain scheme
-    → UnlessMemory res (passes_unless (plain_refusal (length scheme.nodes) scheme.supply scheme.flows plan.flows plan.prices (amount_of plan))) → res ≡ Ok u → walk_refusal scheme plan ≡ None
+    → UnlessMemory res (goes_on_unless (plain_refusal (length scheme.nodes) scheme.supply scheme.flows plan.flows plan.prices (amount_of plan))) → res ≡ Ok u → walk_refusal scheme plan ≡ None
 passed scheme plan u res plain h e = refusal_is scheme plan plain ∙ part_passes _ u res h e
 
 pub accepted : (scheme : Scheme) (plan : Plan) → walk_refusal scheme plan ≡ None → Ok (checked.Optimal (amount_of plan)) ≡ walk scheme plan
@@ -99,6 +99,6 @@ accepted_proves law duality scheme plan plain optimal fits none = proves law dua
 -- the lists are those of the scheme and the plan
 pub over_lists : (scheme : Scheme) (plan : Plan) (k : ℕ) (supply : List Ratio) (flows : List Flow) (amounts prices : List Ratio) (cost : Ratio) (res : Result (Unit {0}) CheckRefusal)
     → k ≡ length scheme.nodes → supply ≡ scheme.supply → flows ≡ scheme.flows → amounts ≡ plan.flows → prices ≡ plan.prices → cost ≡ amount_of plan
-    → UnlessMemory res (passes_unless (plain_refusal k supply flows amounts prices cost))
-    → UnlessMemory res (passes_unless (plain_refusal (length scheme.nodes) scheme.supply scheme.flows plan.flows plan.prices (amount_of plan)))
+    → UnlessMemory res (goes_on_unless (plain_refusal k supply flows amounts prices cost))
+    → UnlessMemory res (goes_on_unless (plain_refusal (length scheme.nodes) scheme.supply scheme.flows plan.flows plan.prices (amount_of plan)))
 over_lists scheme plan k supply flows amounts prices cost res a b c d e f h = rw (← a, ← b, ← c, ← d, ← e, ← f) h

@@ -18,7 +18,7 @@ pub record IsPlain (scheme : Scheme) : Type 0 where
   pub one_period : scheme.periods ≡ 1
   pub flows : All IsPlainFlow scheme.flows
 
--- the ends of a flow in the only period
+-- the ends of a flow in the only period; a hold, which a plain flow is not, has none
 abbrev pub plain_ends : FlowKind → Ends
 plain_ends (Link from to gain) = ends.Link from to gain
 plain_ends (Hold node gain) = ends.Link node node gain

@@ -84,9 +84,9 @@ end_of end [] = Ok end
 end_of Infinite (b ∷ bs) = Ok Infinite
 end_of (Finite end) (b ∷ bs) = band_end end b.width ▷ λ next. end_of next bs
 
-abbrev pub is_past : Ratio → Upper → Bool
-is_past x (Finite u) = is_below u x
-is_past x Infinite = false
+abbrev pub is_above : Ratio → Upper → Bool
+is_above x (Finite u) = is_below u x
+is_above x Infinite = false
 
 abbrev pub is_under : Ratio → Upper → Bool
 is_under x (Finite u) = is_below x u
@@ -97,7 +97,7 @@ reject_stage clause s = Reject clause (Some s.flow) s.period
 
 -- the flow is at least the lower bound and at most the last end
 abbrev pub bound_clause : Stage × Ratio → Option CheckRefusal
-bound_clause (s, x) = tested C2 (end_of s.upper s.bands) (λ end. refused_if (is_below x s.lower || is_past x end) (reject_stage Bound s))
+bound_clause (s, x) = tested C2 (end_of s.upper s.bands) (λ end. refused_if (is_below x s.lower || is_above x end) (reject_stage Bound s))
 
 -- ---- reduced costs, with the operations of C3
 
@@ -111,7 +111,7 @@ price_of p (Feed v) slope = plus_of slope (at p v)
 -- where the flow lies in the segment above its start, the reduced cost is not above 0
 abbrev pub left_test : List Ratio → Stage → Ratio → Segment → Option CheckRefusal
 left_test p s x g =
-    if is_below g.start x && not (is_past x g.end) then tested C3 (price_of p s.ends g.slope) (λ r. refused_if (is_below zero_ratio r) (reject_stage Reduced s))
+    if is_below g.start x && not (is_above x g.end) then tested C3 (price_of p s.ends g.slope) (λ r. refused_if (is_below zero_ratio r) (reject_stage Reduced s))
     else None
 
 -- where the flow lies in the segment below its end, the reduced cost is not below 0
@@ -164,8 +164,8 @@ accepted_unless None x = Ok x
 accepted_unless (Some refusal) x = Err refusal
 
 -- what a part of the walk answers
-abbrev pub passes_unless : Option CheckRefusal → Result (Unit {0}) CheckRefusal
-passes_unless refusal = accepted_unless refusal tt
+abbrev pub goes_on_unless : Option CheckRefusal → Result (Unit {0}) CheckRefusal
+goes_on_unless refusal = accepted_unless refusal tt
 
 -- what the checker answers on an optimal plan: its amount, or the first refusal
 unfoldable pub walk : Scheme → Plan → Result Checked CheckRefusal

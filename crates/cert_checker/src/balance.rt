@@ -6,7 +6,7 @@ ghost use Rattle.np_frac.specs.Exact.{plus_of, minus_of, times_of};
 ghost use Rattle.np_model.specs.declared.arc.Ends.{Ends as TheEnds};
 ghost use Rattle.np_frac.specs.declared.frac.Past.{Past as ThePast};
 ghost use Rattle.np_frac.specs.Ratio.{Ratio, zero_ratio};
-ghost use Rattle.cert_checker.specs.Walk.{◌▷◌, balance_step, balance_of, balance_clause, first_refusal, passes_unless, UnlessMemory};
+ghost use Rattle.cert_checker.specs.Walk.{◌▷◌, balance_step, balance_of, balance_clause, first_refusal, goes_on_unless, UnlessMemory};
 ghost use Rattle.cert_checker.specs.Sums.{sum_clause};
 ghost use Rattle.cert_checker.specs.Plain.{AreNodes, IsPlainFlow, plain_ends, plain_stages};
 ghost use Rattle.np_model.specs.Valid.{IsSound};
@@ -122,7 +122,7 @@ fn check_sum(
 ) -> Result<(), CheckRefusal>
     requires some { 0 < nodes }
     requires few { node < 2 ^ 32 - 1 }
-    ensures { result ≡ passes_unless (sum_clause nodes (node, (supply, sum))) }
+    ensures { result ≡ goes_on_unless (sum_clause nodes (node, (supply, sum))) }
 {
     match sum {
         Ok(sum) => {
@@ -151,7 +151,7 @@ fn check_sums(
     requires each { length sums.now ≡ length supply.now }
     requires some { 0 < length supply.now → 0 < nodes }
     requires few { length supply.now < 2 ^ 32 }
-    ensures { result ≡ passes_unless (first_refusal (sum_clause nodes) (enumerate_from 0 (zip supply.now sums.now))) }
+    ensures { result ≡ goes_on_unless (first_refusal (sum_clause nodes) (enumerate_from 0 (zip supply.now sums.now))) }
 {
     for node in 0..supply.len() {
         check_sum(nodes, node, supply[node], sums[node])?;
@@ -172,7 +172,7 @@ pub fn check_balance(
     requires plain { All IsPlainFlow flows.now }
     requires each { length supply.now ≡ nodes }
     requires few { nodes < 2 ^ 32 }
-    ensures { UnlessMemory result (passes_unless (first_refusal (balance_clause nodes (zip (plain_stages flows.now) amounts.now)) (enumerate_from 0 supply.now))) }
+    ensures { UnlessMemory result (goes_on_unless (first_refusal (balance_clause nodes (zip (plain_stages flows.now) amounts.now)) (enumerate_from 0 supply.now))) }
 {
     let sums = balances(alloc, nodes, flows, amounts)?;
     check_sums(nodes, supply, &sums)

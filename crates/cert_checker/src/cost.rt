@@ -3,7 +3,7 @@
 ghost use Rattle.std.specs.Prelude.{◌≡◌, ℕ, length};
 ghost use Rattle.std.specs.List.{All, zip};
 ghost use Rattle.np_model.specs.Stages.{lesser as lesser_of};
-ghost use Rattle.cert_checker.specs.Walk.{add_cost, cost_of, cost_clause, passes_unless};
+ghost use Rattle.cert_checker.specs.Walk.{add_cost, cost_of, cost_clause, goes_on_unless};
 ghost use Rattle.cert_checker.specs.Plain.{IsPlainFlow, plain_stage, plain_stages};
 
 use crate::answer::{CheckRefusal, Clause};
@@ -46,7 +46,7 @@ fn total_cost(flows: &[Flow], amounts: &[Frac]) -> Result<Frac, Past>
 pub fn check_cost(flows: &[Flow], amounts: &[Frac], cost: Frac) -> Result<(), CheckRefusal>
     requires long { length amounts.now ≡ length flows.now }
     requires plain { All IsPlainFlow flows.now }
-    ensures { result ≡ passes_unless (cost_clause (zip (plain_stages flows.now) amounts.now) cost) }
+    ensures { result ≡ goes_on_unless (cost_clause (zip (plain_stages flows.now) amounts.now) cost) }
 {
     match total_cost(flows, amounts) {
         Ok(sum) => {

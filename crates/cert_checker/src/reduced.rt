@@ -5,12 +5,12 @@ ghost use Rattle.np_frac.specs.Ratio.{is_below};
 ghost use Rattle.std.specs.List.{All, zip};
 ghost use Rattle.np_model.specs.Valid.{IsSound};
 ghost use Rattle.cert_checker.specs.Sums.{sign_clause};
-ghost use Rattle.cert_checker.specs.Walk.{is_past as past_of, is_under as under_of, price_of, reduced_clause, first_refusal, passes_unless};
+ghost use Rattle.cert_checker.specs.Walk.{is_above as above_of, is_under as under_of, price_of, reduced_clause, first_refusal, goes_on_unless};
 ghost use Rattle.cert_checker.specs.Plain.{AreNodes, IsPlainFlow, plain_stage, plain_stages};
 
 use crate::answer::{CheckRefusal, Clause};
 use crate::balance::ends_of;
-use crate::bound::{is_past, is_under};
+use crate::bound::{is_above, is_under};
 use np_frac::{Frac, Past};
 use np_model::{CheckRow, Ends, Flow};
 
@@ -32,9 +32,9 @@ fn price(prices: &[Frac], ends: Ends, slope: Frac) -> Result<Frac, Past>
 
 // Whether the amount lies above the lower bound, and no higher than the upper.
 fn could_fall(flow: &Flow, amount: Frac) -> bool
-    ensures { result ≡ (is_below flow.now.lower amount && not (past_of amount flow.now.upper)) }
+    ensures { result ≡ (is_below flow.now.lower amount && not (above_of amount flow.now.upper)) }
 {
-    flow.lower.is_below(amount) && !is_past(amount, flow.upper)
+    flow.lower.is_below(amount) && !is_above(amount, flow.upper)
 }
 
 // Whether the amount lies below the upper bound, and no lower than the lower.
@@ -49,7 +49,7 @@ fn could_rise(flow: &Flow, amount: Frac) -> bool
 fn check_flow(prices: &[Frac], number: u32, flow: &Flow, amount: Frac) -> Result<(), CheckRefusal>
     requires plain { IsPlainFlow flow.now }
     requires sound { IsSound (length prices.now) flow.now }
-    ensures { result ≡ passes_unless (reduced_clause prices.now (plain_stage (number, flow.now), amount)) }
+    ensures { result ≡ goes_on_unless (reduced_clause prices.now (plain_stage (number, flow.now), amount)) }
 {
     let falls = could_fall(flow, amount);
     let rises = could_rise(flow, amount);
@@ -67,7 +67,7 @@ fn check_flow(prices: &[Frac], number: u32, flow: &Flow, amount: Frac) -> Result
 
 // Whether a reduced cost has the sign that is asked for.
 fn check_sign(number: u32, falls: bool, rises: bool, reduced: Frac) -> Result<(), CheckRefusal>
-    ensures { result ≡ passes_unless (sign_clause number falls rises reduced) }
+    ensures { result ≡ goes_on_unless (sign_clause number falls rises reduced) }
 {
     let zero = Frac::whole(0);
     if falls && zero.is_below(reduced) || rises && reduced.is_below(zero) {
@@ -86,7 +86,7 @@ pub fn check_reduced(prices: &[Frac], flows: &[Flow], amounts: &[Frac]) -> Resul
     requires sound { All (IsSound (length prices.now)) flows.now }
     requires plain { All IsPlainFlow flows.now }
     requires few { length flows.now < 2 ^ 32 }
-    ensures { result ≡ passes_unless (first_refusal (reduced_clause prices.now) (zip (plain_stages flows.now) amounts.now)) }
+    ensures { result ≡ goes_on_unless (first_refusal (reduced_clause prices.now) (zip (plain_stages flows.now) amounts.now)) }
 {
     for i in 0..flows.len() {
         check_flow(prices, i as u32, &flows[i], amounts[i])?;

@@ -6,7 +6,7 @@ ghost use Rattle.np_model.specs.Valid.{IsSound};
 ghost use Rattle.cert_checker.specs.Sums.{plain_refusal};
 ghost use Rattle.np_model.specs.declared.plan.Verdict.TheVariants as verdict;
 ghost use Rattle.np_model.specs.Fits.{PlanFits};
-ghost use Rattle.cert_checker.specs.Walk.{walk, amount_of, passes_unless, UnlessMemory};
+ghost use Rattle.cert_checker.specs.Walk.{walk, amount_of, goes_on_unless, UnlessMemory};
 ghost use Rattle.cert_checker.specs.declared.answer.Checked.TheVariants as checked;
 ghost use Rattle.cert_checker.specs.Proves.{Proves};
 ghost use Rattle.cert_checker.specs.Plain.{IsPlain, IsPlainFlow};
@@ -73,7 +73,7 @@ fn check_lists(
     requires prices { length prices.now ≡ nodes }
     requires few_nodes { nodes < 2 ^ 32 }
     requires few { length flows.now < 2 ^ 32 }
-    ensures { UnlessMemory result (passes_unless (plain_refusal nodes supply.now flows.now amounts.now prices.now cost)) }
+    ensures { UnlessMemory result (goes_on_unless (plain_refusal nodes supply.now flows.now amounts.now prices.now cost)) }
 {
     check_balance(alloc, nodes, supply, flows, amounts)?;
     check_bounds(flows, amounts)?;

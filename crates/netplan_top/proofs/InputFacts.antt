@@ -10,7 +10,8 @@ use Rattle.np_model.specs.declared.plan.Verdict.{Verdict}
 use Rattle.np_model.specs.declared.plan.Verdict.TheVariants.{Optimal}
 use Rattle.np_model.specs.declared.plan.Plan.{Plan}
 use Rattle.np_model.specs.Schemes.{staged}
-use Rattle.np_model.specs.Fits.{FitsAs, PlanFits}
+use Rattle.np_model.specs.Fits.{FitsAs, PlanFits, LogFits}
+use Rattle.np_model.specs.declared.plan.Log.{Log}
 use Rattle.cert_checker.specs.Plain.{IsPlain}
 use Rattle.netplan_top.specs.Split.{body_of, rest_of}
 use Rattle.netplan_top.specs.NetworkForm.{IsNetwork, IsSchemeOf, node_names, arc_names, defined_arc, flow_in, supply_of, is_kind}
@@ -19,6 +20,15 @@ use Rattle.netplan_top.specs.Reads.{IsInForm, Reads, StopsFor}
 use Rattle.netplan_top.specs.InputRead.{IsInputRead}
 use Rattle.netplan_top.specs.declared.stop.Stop.{Stop}
 use Rattle.netplan_top.specs.declared.stop.Stop.TheVariants as stop
+
+-- a log without pivots fits
+empty_log : (log : Log) → log.turned ≡ None → log.entries ≡ [] → LogFits log
+empty_log log turned entries = record {
+  turned = rw turned tt;
+  few = rw entries (omega arith);
+  numbers = rw entries (λ k d h. absurd (omega arith));
+  at_bounds = rw entries (λ k d h. absurd (omega arith));
+}
 
 -- each arc record gives one flow and one name
 one_each : {A B : Type 0} (b : Bool) (x : A) (y : B) (xs : List A) (ys : List B) → length xs ≡ length ys → length (cons_option (if b then Some x else None) xs) ≡ length (cons_option (if b then Some y else None) ys)
@@ -37,7 +47,7 @@ module _ (rows claims : List (List (List ℕ))) (scheme : Scheme) (plan : Plan) 
       let prices : length plan.prices ≡ length (node_names rows) = ap length gives.prices ∙ length-map-range_with_len _ 0 (length (node_names rows)) in
       let supplies : length scheme.supply ≡ length (node_names rows) = ap length is.supply ∙ length-map-range_with_len (supply_of rows) 0 (length (node_names rows)) in
       let arcs : length (staged scheme) ≡ length (arc_names rows) = law scheme plain ∙ ap length is.flows ∙ length-flows (node_names rows) rows in
-      subst (λ (v : Verdict). FitsAs v scheme plan) (sym gives.verdict) (record { amount = gives.priced; flows = flows ∙ sym arcs; prices = prices ∙ sym supplies })
+      subst (λ (v : Verdict). FitsAs v scheme plan) (sym gives.verdict) (record { amount = gives.priced; flows = flows ∙ sym arcs; prices = prices ∙ sym supplies; log = empty_log plan.log gives.turned gives.entries })
 
 -- what the records of an input give
 record IsRead (rows : List (List (List ℕ))) (scheme : Scheme) (plan : Plan) : Type 0 where

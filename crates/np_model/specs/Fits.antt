@@ -42,14 +42,17 @@ pub record OptimalFits (scheme : Scheme) (plan : Plan) : Type 0 where
   pub amount : IsSome plan.amount
   pub flows : length plan.flows ≡ length (staged scheme)
   pub prices : length plan.prices ≡ length scheme.supply
+  pub log : LogFits plan.log
 
 pub record InfeasibleFits (scheme : Scheme) (plan : Plan) : Type 0 where
   pub amount : IsSome plan.amount
   pub prices : length plan.prices ≡ length scheme.supply
+  pub log : LogFits plan.log
 
 pub record UnboundedFits (scheme : Scheme) (plan : Plan) : Type 0 where
   pub flows : length plan.flows ≡ length (staged scheme)
   pub ray : length plan.ray ≡ length (staged scheme)
+  pub log : LogFits plan.log
 
 pub record BudgetFits (plan : Plan) : Type 0 where
   pub arc : IsSome plan.arc
