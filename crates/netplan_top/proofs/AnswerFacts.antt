@@ -1,5 +1,5 @@
 -- From what the parts answer to what is said of an input, and from there to how a run ends.
-use Rattle.std.specs.Prelude.{◌≡◌, ◌≢◌, ℕ, ◌+◌, ◌<◌, ◌≤◌, ◌⊎◌, Option, Some, None, Result, Ok, Err, IfOk, List, [], ◌∷◌, length, map}
+use Rattle.std.specs.Prelude.{◌≡◌, ◌≢◌, ℕ, ◌⊎◌, Ok, Err, List, [], ◌∷◌, length, map}
 use Rattle.std.proofs.Common.{refl, sym, ap, subst, ◌∙◌, inl, inr, arith, get_or}
 use Rattle.np_frac.specs.Ratio.{Ratio}
 use Rattle.np_model.specs.declared.plan.Plan.{Plan}
@@ -12,7 +12,7 @@ use Rattle.cert_checker.specs.declared.answer.CheckRefusal.{CheckRefusal}
 use Rattle.cert_checker.specs.declared.answer.CheckRefusal.TheVariants as refusal
 use Rattle.netplan_top.specs.Reads.{Reads}
 use Rattle.netplan_top.specs.Texts.{check_text, accepted_line}
-use Rattle.netplan_top.specs.Answers.{Accepts, Passes, Rejects, Says, IsLater, IsAnswer, IsJudged, IsRefused, IsWholeInput, IsTooLong, IsSomeText, IsCut, Wrote, WrotePart, Gives, GivesTooLong}
+use Rattle.netplan_top.specs.Answers.{IsLater, IsAnswer, IsJudged, IsRefused, IsWholeInput, IsTooLong, Gives, GivesTooLong}
 use Rattle.netplan_top.specs.Endings.{IsPrinted, Streams, Ending}
 
 -- ---- what the checker answers

@@ -1,21 +1,19 @@
 -- From the two texts of an input to the whole.
-use Rattle.std.specs.Prelude.{◌≡◌, ℕ, true, false, Bool, Option, Some, None, List, [], ◌∷◌, length, codes, if◌then◌else◌}
+use Rattle.std.specs.Prelude.{◌≡◌, ℕ, true, false, Bool, Some, None, List, [], ◌∷◌, length, codes, if◌then◌else◌}
 use Rattle.std.specs.List.{filter_map, cons_option}
 use Rattle.std.proofs.Common.{refl, sym, ap, subst, ◌∙◌, arith}
 use Rattle.std.proofs.lemmas.List.FromFn.{length-map-range_with_len}
 use Rattle.np_records.specs.Records.{records_of}
 use Rattle.np_model.specs.declared.scheme.Scheme.{Scheme}
-use Rattle.np_model.specs.declared.scheme.Flow.{Flow}
 use Rattle.np_model.specs.declared.plan.Verdict.{Verdict}
-use Rattle.np_model.specs.declared.plan.Verdict.TheVariants.{Optimal}
 use Rattle.np_model.specs.declared.plan.Plan.{Plan}
 use Rattle.np_model.specs.Schemes.{staged}
 use Rattle.np_model.specs.Fits.{FitsAs, PlanFits, LogFits}
 use Rattle.np_model.specs.declared.plan.Log.{Log}
 use Rattle.cert_checker.specs.Plain.{IsPlain}
 use Rattle.netplan_top.specs.Split.{body_of, rest_of}
-use Rattle.netplan_top.specs.NetworkForm.{IsNetwork, IsSchemeOf, node_names, arc_names, defined_arc, flow_in, supply_of, is_kind}
-use Rattle.netplan_top.specs.PlanForm.{IsPlanText, IsPlanOf, amounts_of, flows_given, prices_given}
+use Rattle.netplan_top.specs.NetworkForm.{IsNetwork, IsSchemeOf, node_names, arc_names, flow_in, supply_of, is_kind}
+use Rattle.netplan_top.specs.PlanForm.{IsPlanText, IsPlanOf}
 use Rattle.netplan_top.specs.Reads.{IsInForm, Reads, StopsFor}
 use Rattle.netplan_top.specs.InputRead.{IsInputRead}
 use Rattle.netplan_top.specs.declared.stop.Stop.{Stop}

@@ -1,5 +1,5 @@
 -- What the program answers, with the cause of each answer.
-use Rattle.std.specs.Prelude.{◌≡◌, ℕ, ◌+◌, ◌<◌, ◌≤◌, ◌⊎◌, Option, Result, Ok, Err, List, length, codes, take}
+use Rattle.std.specs.Prelude.{◌≡◌, ℕ, ◌+◌, ◌<◌, ◌≤◌, ◌⊎◌, Option, Ok, Err, List, length, codes, take}
 use Rattle.std.specs.Io.KnownBytes.{prepend_known, append_known, IsAtEnd}
 use Rattle.np_frac.specs.Ratio.{Ratio}
 use Rattle.np_frac.specs.declared.frac.Past.{Past}

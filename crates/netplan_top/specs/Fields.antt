@@ -1,8 +1,7 @@
 -- The fields of the narrow form: whole numbers, bounds, and the only period.
-use Rattle.std.specs.Prelude.{◌≡◌, ℕ, ◌⊎◌, Bool, true, false, List, codes, if◌then◌else◌}
+use Rattle.std.specs.Prelude.{◌≡◌, ℕ, ◌⊎◌, true, false, List, codes, if◌then◌else◌}
 use Rattle.std.specs.List.{list_any}
 use Rattle.std.specs.Str.{bytes_eq}
-use Rattle.np_frac.specs.Ratio.{Ratio}
 use Rattle.np_frac.specs.Text.{is_mark, IsNumber, number}
 use Rattle.np_frac.specs.Amount.{IsAmount, amount_of}
 use Rattle.np_model.specs.declared.arc.Upper.{Upper}

@@ -1,6 +1,6 @@
 -- The network texts that are taken so far: one period, whole numbers, and links alone. Each record is tested by its place, against the
 -- names that the records before it define.
-use Rattle.std.specs.Prelude.{◌≡◌, ℕ, ◌+◌, ◌<◌, ◌≤◌, ◌⊎◌, ◌==◌, Bool, true, false, Option, Some, None, IsSome, unwrap_or, option_map, List, [], ◌∷◌, length, take, drop, map, codes, slice_get, slice_index_or, MatchBool, if◌then◌else◌}
+use Rattle.std.specs.Prelude.{◌≡◌, ℕ, ◌<◌, ◌≤◌, ◌⊎◌, ◌==◌, Bool, true, false, Option, Some, None, IsSome, unwrap_or, option_map, List, [], ◌∷◌, length, take, drop, map, codes, slice_get, slice_index_or, MatchBool, if◌then◌else◌}
 use Rattle.std.specs.List.{filter_map, list_any, range_with_len}
 use Rattle.std.specs.Option.{option_or}
 use Rattle.std.specs.Str.{bytes_eq}

@@ -1,5 +1,4 @@
-use Rattle.std.proofs.lemmas.Result.{err_from_is_err_and}
-use Rattle.netplan_top.proofs.InputFacts.{whole_input, no_network, no_plan}
+use Rattle.netplan_top.proofs.InputFacts.{whole_input}
 use Rattle.netplan_top.proofs.input.read_input.Goals as goal
 
 pub returns : goal.returns
