@@ -10,6 +10,7 @@ pub mod Amounts
 pub mod Texts
 pub mod ReadsBack
 pub mod Facts
+pub mod Twos
 pub mod Wholes
 pub mod AmountTexts
 pub mod SumLowest

@@ -1,4 +1,5 @@
 pub mod Coprime
+pub mod Odd
 pub mod Signs
 pub mod Ratio
 pub mod Lcm

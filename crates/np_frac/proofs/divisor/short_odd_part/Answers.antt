@@ -1,0 +1,6 @@
+use Rattle.std.specs.Int.{w64}
+use Rattle.np_frac.proofs.Twos.{odd_part-is}
+use Rattle.np_frac.proofs.divisor.short_odd_part.Goals as goal
+
+pub returns : goal.returns
+returns c = odd_part-is w64 c.args.n c.requires c.ranges.n
