@@ -1,16 +1,17 @@
--- Over coprime denominators a sum is in lowest terms at once.
+-- The terms of a sum have common divisors only with what the denominators share.
 use Rattle.std.specs.Prelude.{◌≡◌, ℕ, ◌*◌, ◌/◌, ℤ, pos, neg_ℤ, ◌+ℤ◌, ◌*ℤ◌, unsigned_abs}
-use Rattle.std.proofs.Common.{arith, ap, sym, subst, ◌∙◌}
+use Rattle.std.proofs.Common.{arith, ap, sym, subst, refl, ◌∙◌, ◌<◌}
 use Rattle.std.specs.Int.{IsGcd, ◌∣◌}
 use Rattle.std.specs.Int.RustNames.{int_div}
-use Rattle.std.proofs.Math.Nat.{one-dvd, mul_comm, mul-pos, dvd-mul_left, dvd-mul_right, div-one}
+use Rattle.std.proofs.Math.Nat.{one-dvd, mul_comm, mul-pos, dvd-mul_left, dvd-mul_right, div-one, mul-div_cancel'}
 use Rattle.std.proofs.lemmas.Int.{ints, unsigned_abs-mul}
 use Rattle.std.proofs.lemmas.Nat.Gcd.{dvd_refl, dvd_trans, IsGcd-swap}
 use borrow.Author.Differences.{same_in, neg_is}
 use Rattle.np_frac.specs.Ratio.{Ratio, IsLowest}
-use Rattle.np_frac.specs.Coprime.{dvd_of_coprime, coprime-divisors, coprime-product}
+use Rattle.np_frac.specs.Coprime.{dvd_of_coprime, coprime-divisors, coprime-product, coprime-quotients, IsGcd-beside}
 use Rattle.np_frac.specs.Signs.{quot-exact, up-*, down-*, *ℤ-+ℤ}
 use Rattle.np_frac.proofs.SumParts.{SumParts}
+use Rattle.np_frac.proofs.Fractions.{gcd-some}
 
 times_neg : (k : ℕ) (q : ℤ) → pos k *ℤ neg_ℤ q ≡ neg_ℤ (pos k *ℤ q)
 times_neg k q =
@@ -58,3 +59,28 @@ sum_lowest a b g c l r s e =
     let apart : IsGcd a.den b.den 1 = subst (λ (k : ℕ). IsGcd a.den b.den k) e s.is_gcd in
     let whole : (d : ℕ) → d / g ≡ d = λ d. ap (λ (k : ℕ). d / k) e ∙ div-one d in
     rw (s.common_is, s.left_is, s.right_is, whole a.den, whole b.den) (by_parts a b apart)
+
+-- each common divisor of a sum and of its denominator is one of what the denominators share
+pub sum_shares : (a b : Ratio) (g c : ℕ) (l r : ℤ) (h : ℕ) → SumParts a b g c l r → IsGcd (unsigned_abs (l +ℤ r)) g h → IsGcd (unsigned_abs (l +ℤ r)) c h
+sum_shares a b g c l r h s is =
+    let left = a.den / g in
+    let right = b.den / g in
+    let above : 0 < g = gcd-some a.den b.den g b.lowest.positive s.is_gcd in
+    let p : g * left ≡ a.den = mul-div_cancel' g s.is_gcd.0 in
+    let q : g * right ≡ b.den = mul-div_cancel' g s.is_gcd.1 in
+    let apart : IsGcd left right 1 = coprime-quotients a.den b.den g left right above s.is_gcd p q in
+    let n = a.num *ℤ pos right +ℤ b.num *ℤ pos left in
+    let left_divides : left ∣ a.den = subst (λ (t : ℕ). left ∣ t) p (dvd-mul_left left g) in
+    let right_divides : right ∣ b.den = subst (λ (t : ℕ). right ∣ t) q (dvd-mul_left right g) in
+    let beside_left : IsGcd (unsigned_abs n) left 1 =
+    coprime-sum a.num b.num left right (coprime-divisors _ _ _ _ a.lowest.coprime (dvd_refl _) left_divides) apart in
+    let beside_right : IsGcd (unsigned_abs n) right 1 =
+    subst (λ (z : ℤ). IsGcd (unsigned_abs z) right 1) (swapped (b.num *ℤ pos left) (a.num *ℤ pos right))
+    (coprime-sum b.num a.num right left (coprime-divisors _ _ _ _ b.lowest.coprime (dvd_refl _) right_divides) (IsGcd-swap _ _ _ apart)) in
+    let e : l +ℤ r ≡ n = rw (s.left_is, s.right_is) refl in
+    let k : IsGcd (unsigned_abs n) g h = subst (λ (z : ℤ). IsGcd (unsigned_abs z) g h) e is in
+    let w : IsGcd (unsigned_abs n) (left * right * g) h = IsGcd-beside _ (left * right) g h (coprime-product _ left right beside_left beside_right) k in
+    let u : g * left * right ≡ a.den * right = ap (λ (m : ℕ). m * right) p in
+    let v : c ≡ a.den * right = s.common_is in
+    let t : left * right * g ≡ c = omega arith in
+    subst (λ (z : ℤ). IsGcd (unsigned_abs z) c h) (sym e) (subst (λ (m : ℕ). IsGcd (unsigned_abs n) m h) t w)

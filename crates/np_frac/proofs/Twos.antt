@@ -2,9 +2,9 @@
 use Rattle.std.proofs.Common.{◌≡◌, ℕ, zero, suc, ◌*◌, ◌/◌, ◌%◌, ◌^◌, ◌<◌, ◌≤◌, min, Fits, arith, subst, sym, refl, ap, ◌∙◌, ◌-◌, ◌⊎◌, inl, inr}
 use Rattle.std.specs.Int.{IsGcd, bit_at, abs_diff, trailing_zeros, Width, w128}
 use Rattle.std.proofs.lemmas.Nat.Bits.{bit_at-trailing_zeros}
-use Rattle.std.proofs.Math.Nat.{dvd-mul_left_of_dvd, pow-suc, pow-succ', mul_assoc, mul_comm, div-div-eq-div-mul}
-use Rattle.std.proofs.lemmas.Nat.Gcd.{dvd_refl, le_of_dvd, same_from_IsGcd, IsGcd-swap, IsGcd-from_sub, IsGcd-from_mod, IsGcd-from_zero}
-use Rattle.np_frac.specs.Coprime.{scales, dvd_of_coprime, coprime-divisors}
+use Rattle.std.proofs.Math.Nat.{pow-suc, pow-succ', mul_assoc, mul_comm, div-div-eq-div-mul}
+use Rattle.std.proofs.lemmas.Nat.Gcd.{le_of_dvd, same_from_IsGcd, IsGcd-swap, IsGcd-from_sub, IsGcd-from_mod, IsGcd-from_zero}
+use Rattle.np_frac.specs.Coprime.{scales, IsGcd-beside}
 use Rattle.np_frac.specs.Odd.{IsOddPart}
 
 -- a number whose k lowest bits are 0 is a multiple of 2 to the k
@@ -27,19 +27,12 @@ odd_part-is w n above fits =
 coprime-two : (x : ℕ) → x % 2 ≡ 1 → IsGcd x 2 1
 coprime-two x odd = IsGcd-from_mod x 2 1 (subst (λ n. IsGcd 2 n 1) (sym odd) (IsGcd-from_mod 2 1 1 (IsGcd-from_zero 1 _ refl)))
 
--- an odd number and twice another have the common divisors of the two
-IsGcd-doubled : (x z g : ℕ) → x % 2 ≡ 1 → IsGcd x z g → IsGcd x (2 * z) g
-IsGcd-doubled x z g odd h = (
-  h.0,
-  dvd-mul_left_of_dvd g h.1 2,
-  λ d p q. h.2 d p (dvd_of_coprime d 2 z (coprime-divisors x 2 d 2 (coprime-two x odd) p (dvd_refl 2)) q),
-)
-
+-- what is shifted out of a number is no divisor of an odd one
 IsGcd-twos : (x z g k : ℕ) → x % 2 ≡ 1 → IsGcd x z g → IsGcd x (2 ^ k * z) g
 IsGcd-twos x z g zero odd h = subst (λ n. IsGcd x n g) (omega arith) h
 IsGcd-twos x z g (suc k) odd h =
     let e : 2 * (2 ^ k * z) ≡ 2 ^ suc k * z = sym (mul_assoc 2 (2 ^ k) z) ∙ ap (λ m. m * z) (sym (pow-succ' 2 k)) in
-    subst (λ n. IsGcd x n g) e (IsGcd-doubled x (2 ^ k * z) g odd (IsGcd-twos x z g k odd h))
+    subst (λ n. IsGcd x n g) e (IsGcd-beside x 2 (2 ^ k * z) g (coprime-two x odd) (IsGcd-twos x z g k odd h))
 
 pub IsGcd-odd_part : (x y m g : ℕ) → x % 2 ≡ 1 → IsOddPart y m → IsGcd x m g → IsGcd x y g
 IsGcd-odd_part x y m g odd p h = subst (λ n. IsGcd x n g) (sym p.product) (IsGcd-twos x m g p.twos odd h)

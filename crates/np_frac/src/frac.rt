@@ -5,7 +5,7 @@ ghost use Rattle.np_frac.specs.Ratio.{IsLowest, over_some, whole, negated, inver
 ghost use Rattle.np_frac.specs.Lowest.{Fit, IsFound, IsSumFound};
 ghost use Rattle.np_frac.specs.Order.{ratio_cmp, ratio_eq};
 
-use crate::divisor::{gcd, reduced};
+use crate::divisor::{gcd, reduced, reduced_by_shared};
 use crate::wide::{compare_products, lower_within, product_within, sum_within};
 use std::cmp::Ordering;
 use std::marker::Model;
@@ -176,7 +176,8 @@ impl Frac {
                 den: common,
             });
         }
-        let (num, den) = reduced(sum, common);
+        // What the sum has in common with the denominator, it has in common with what the denominators share.
+        let (num, den) = reduced_by_shared(sum, common, shared);
         Some(Frac { num, den })
     }
 

@@ -7,7 +7,7 @@ use Rattle.np_frac.specs.Signs.{cross_trans}
 use Rattle.np_frac.proofs.Fractions.{gcd-some, reduced-same, cast_quotient, quotient-some}
 use Rattle.np_frac.proofs.Wholes.{whole_by_den}
 use Rattle.np_frac.proofs.SumParts.{SumParts, sum-common, sum-left, sum-right, HasSum-parts, sum-parts-same}
-use Rattle.np_frac.proofs.SumLowest.{sum_lowest}
+use Rattle.np_frac.proofs.SumLowest.{sum_lowest, sum_shares}
 use Rattle.np_frac.proofs.frac.Frac.sum_of.Goals as goal
 
 pub returns-in_err-common : goal.returns-in_err-common
@@ -48,9 +48,28 @@ returns-in_err-sum c = rw (c.from_residual-in_err-sum.ensures, ← c.self.view_i
     let pr : h.right ≡ c.in_ok-right.right = er ∙ sym kr in
     k (rw (← pl, ← pr) h.sum_fits))
 
-pub reduced-num-requires-clause-some : goal.reduced-num-requires-clause-some
-reduced-num-requires-clause-some c =
+pub reduced_by_shared-num-requires-clause-some : goal.reduced_by_shared-num-requires-clause-some
+reduced_by_shared-num-requires-clause-some c =
     rw c.in_ok-common.ensures.1 (mul-pos c.self.inside.lowest.positive (quotient-some _ _ _ c.other.inside.lowest.positive c.gcd-shared.ensures))
+
+pub reduced_by_shared-num-requires-clause-same : goal.reduced_by_shared-num-requires-clause-same
+reduced_by_shared-num-requires-clause-same c =
+    let fa : FitsSigned w128 c.self.inside.num = search rules in
+    let fb : FitsSigned w128 c.other.inside.num = search rules in
+    let fl : FitsSigned w128 c.in_ok-left.left = search rules in
+    let fr : FitsSigned w128 c.in_ok-right.right = search rules in
+    let fs : FitsSigned w128 c.in_ok-sum.sum = search rules in
+    let tl = cast_quotient c.other.inside.den c.gcd-shared.result c.other.invariant.den_fits in
+    let tr = cast_quotient c.self.inside.den c.gcd-shared.result c.self.invariant.den_fits in
+    let kc = c.in_ok-common.ensures in
+    let kl = rw tl at (simp to_z-of_z at c.in_ok-left.ensures) in
+    let kr = rw tr at (simp to_z-of_z at c.in_ok-right.ensures) in
+    let ks = simp to_z-of_z at c.in_ok-sum.ensures in
+    let a = made c.self.inside.num c.self.inside.den c.self.inside.lowest in
+    let b = made c.other.inside.num c.other.inside.den c.other.inside.lowest in
+    let s : SumParts a b c.gcd-shared.result c.in_ok-common.common c.in_ok-left.left c.in_ok-right.right =
+    record { is_gcd = c.gcd-shared.ensures; common_is = kc.1; left_is = kl.1; right_is = kr.1 } in
+    simp to_z-of_z (rw ks.1 (λ factor h. sum_shares a b _ _ _ _ factor s h))
 
 pub returns : goal.returns
 returns c =
@@ -59,14 +78,14 @@ returns c =
     let fl : FitsSigned w128 c.in_ok-left.left = search rules in
     let fr : FitsSigned w128 c.in_ok-right.right = search rules in
     let fs : FitsSigned w128 c.in_ok-sum.sum = search rules in
-    let fn : FitsSigned w128 c.reduced-num.result.0 = search rules in
+    let fn : FitsSigned w128 c.reduced_by_shared-num.result.0 = search rules in
     let tl = cast_quotient c.other.inside.den c.gcd-shared.result c.other.invariant.den_fits in
     let tr = cast_quotient c.self.inside.den c.gcd-shared.result c.self.invariant.den_fits in
     let kc = c.in_ok-common.ensures in
     let kl = rw tl at (simp to_z-of_z at c.in_ok-left.ensures) in
     let kr = rw tr at (simp to_z-of_z at c.in_ok-right.ensures) in
     let ks = simp to_z-of_z at c.in_ok-sum.ensures in
-    let r = rw ks.1 at (simp to_z-of_z at c.reduced-num.ensures.parts) in
+    let r = rw ks.1 at (simp to_z-of_z at c.reduced_by_shared-num.ensures.parts) in
     let a = made c.self.inside.num c.self.inside.den c.self.inside.lowest in
     let b = made c.other.inside.num c.other.inside.den c.other.inside.lowest in
     let s : SumParts a b c.gcd-shared.result c.in_ok-common.common c.in_ok-left.left c.in_ok-right.right =
