@@ -8,3 +8,5 @@ pub mod ClaimsTables
 pub mod ClaimsText
 pub mod ClaimsDraft
 pub mod InputFacts
+pub mod OneReading
+pub mod OneAnswer

@@ -6,6 +6,7 @@ mod claims;
 mod draft;
 mod fields;
 mod input;
+pub mod laws;
 mod network;
 mod rows;
 mod stop;

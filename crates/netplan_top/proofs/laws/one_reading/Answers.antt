@@ -1,0 +1,8 @@
+use Rattle.netplan_top.proofs.OneReading.{scheme_is, plan_is}
+use Rattle.netplan_top.proofs.laws.one_reading.Goals as goal
+
+pub returns-clause-scheme : goal.returns-clause-scheme
+returns-clause-scheme c = scheme_is
+
+pub returns-clause-plan : goal.returns-clause-plan
+returns-clause-plan c = plan_is
