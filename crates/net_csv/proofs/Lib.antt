@@ -1,0 +1,12 @@
+mod FieldFacts
+mod TakeFacts
+mod Places
+mod RowKinds
+mod FlowLists
+mod Steps
+mod Fine
+mod Stops
+mod Room
+mod SoFar
+mod HeadFacts
+mod Tails

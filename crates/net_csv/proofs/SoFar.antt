@@ -1,0 +1,187 @@
+-- Reading the records of a text, one by one.
+use Rattle.std.specs.Prelude.{◌≡◌, ℕ, suc, zero, ◌+◌, ◌<◌, ◌≤◌, ◌==◌, ◌&&◌, nat_lt, Bool, true, false, Some, None, List, [], ◌∷◌, ◌++◌, length, drop, slice_get, Err, codes, if◌then◌else◌}
+use Rattle.std.specs.List.{AllByRecursion}
+use Rattle.std.proofs.Common.{refl, sym, ap, ◌∙◌, inl, inr, arith, append_assoc}
+use Rattle.std.proofs.lemmas.Bool.{cases_eq}
+use Rattle.std.proofs.lemmas.Bool.Decides.{nat_tests}
+use Rattle.std.proofs.lemmas.List.{length_push, length-append, take_at, drop_at}
+use Rattle.net_csv.specs.declared.refused.Code.{Code}
+use Rattle.net_csv.specs.declared.refused.Code.TheVariants as code
+use Rattle.net_csv.specs.declared.refused.Refused.{Refused}
+use Rattle.net_csv.specs.declared.refused.Refused.TheVariants as refused
+use Rattle.net_csv.specs.Fields.{fields_fault}
+use Rattle.net_csv.specs.Network.{is_kind, node_names, flow_names}
+use Rattle.net_csv.specs.Faults.{record_fault, body_fault}
+use Rattle.net_csv.specs.Grammar.{row_at, body_before, periods_in, fault_at, stops_at, stop_of}
+use Rattle.net_csv.specs.Tables.{Tables, TakesRow, HasRoom, tables_of, no_tables, with_record}
+use Rattle.net_csv.specs.Reading.{IsHeadRead, IsTextRead, RefusesAt}
+use Rattle.net_csv.proofs.RowKinds.{IsFine}
+use Rattle.net_csv.proofs.Fine.{fine-none, fine-more, tables-more}
+use Rattle.net_csv.proofs.Room.{room-more, unless-none}
+use Rattle.net_csv.proofs.Stops.{stop-is, refuses-at}
+
+pub record IsSoFar (rows left : List (List (List ℕ))) (place : ℕ) (t : Tables) : Type 0 where
+  pub before : List (List (List ℕ))
+  pub whole : rows ≡ before ++ left
+  pub size : place ≡ length before
+  pub two : 2 ≤ length before
+  pub none : (i : ℕ) → i < place → stops_at rows i ≡ false
+  pub tables : t ≡ tables_of (periods_in rows) (drop 2 before)
+  pub fine : AllByRecursion (IsFine (node_names (drop 2 before)) (flow_names (drop 2 before))) (drop 2 before)
+  pub room : HasRoom t
+  pub some : 0 < periods_in rows
+
+-- ---- the head
+
+stops-head : (rows : List (List (List ℕ))) → fault_at rows 0 ≡ None → fault_at rows 1 ≡ None → (i : ℕ) → i < 2 → stops_at rows i ≡ false
+stops-head rows a b zero h = rw a refl
+stops-head rows a b (suc zero) h = rw b refl
+stops-head rows a b (suc (suc i)) h = absurd (omega arith)
+
+empty-tables : (periods : ℕ) → tables_of periods [] ≡ no_tables periods
+unfolding tables_of
+empty-tables periods = refl
+
+pub so_far-head : (rows left : List (List (List ℕ))) (periods : ℕ) (t : Tables) → IsHeadRead rows left periods → t ≡ no_tables periods → IsSoFar rows left 2 t
+so_far-head [] left periods t h e = absurd (let two = h.two in omega arith)
+so_far-head (a ∷ []) left periods t h e = absurd (let two = h.two in omega arith)
+so_far-head (a ∷ b ∷ rest) left periods t h e =
+    let number = h.number in
+    let few = h.few in
+    record {
+      before = a ∷ b ∷ [];
+      whole = rw h.left refl;
+      size = refl;
+      two = omega arith;
+      none = stops-head (a ∷ b ∷ rest) h.header h.second;
+      tables = e ∙ sym (empty-tables periods) ∙ ap (λ (k : ℕ). tables_of k []) number;
+      fine = tt;
+      room = rw e (record { one_each = refl; periods = few; nodes = omega arith; arcs = omega arith });
+      some = rw (sym number) h.some;
+    }
+
+-- ---- a record
+
+at-length : (before left : List (List (List ℕ))) (r : List (List ℕ)) → slice_get (before ++ r ∷ left) (length before) ≡ Some r
+at-length [] left r = refl
+at-length (b ∷ bs) left r = at-length bs left r
+
+row-here : (rows left : List (List (List ℕ))) (place : ℕ) (t : Tables) (r : List (List ℕ)) → IsSoFar rows (r ∷ left) place t → row_at rows place ≡ r
+row-here rows left place t r s = rw (s.whole, s.size, at-length s.before left r) refl
+
+body-here : (rows left : List (List (List ℕ))) (place : ℕ) (t : Tables) → (s : IsSoFar rows left place t) → body_before rows place ≡ drop 2 s.before
+body-here rows left place t s = rw (s.whole, take_at s.before left place (sym s.size)) refl
+
+inside : (rows left : List (List (List ℕ))) (place : ℕ) (t : Tables) (r : List (List ℕ)) → IsSoFar rows (r ∷ left) place t → place < length rows
+inside rows left place t r s =
+    let all = length-append s.before (r ∷ left) in
+    let size = s.size in
+    rw s.whole (omega arith)
+
+tables-fault : (periods : ℕ) (body : List (List (List ℕ))) (r : List (List ℕ))
+    → record_fault (tables_of periods body).periods (tables_of periods body).nodes (tables_of periods body).names (tables_of periods body).arcs (tables_of periods body).flows r ≡ body_fault periods body r
+unfolding tables_of
+tables-fault periods body r = refl
+
+pub so_far-fault : (rows left : List (List (List ℕ))) (place : ℕ) (t : Tables) (r : List (List ℕ)) → IsSoFar rows (r ∷ left) place t
+    → fault_at rows place ≡ (if is_kind r (codes "end") then fields_fault 1 r else record_fault t.periods t.nodes t.names t.arcs t.flows r)
+so_far-fault rows left place t r s =
+    let within = inside rows left place t r s in
+    let two = s.two in
+    let size = s.size in
+    let there : nat_lt place (length rows) ≡ true = grind (arith, nat_tests) in
+    let not_first : (place == 0) ≡ false = grind (arith, nat_tests) in
+    let not_second : (place == 1) ≡ false = grind (arith, nat_tests) in
+    let same : record_fault t.periods t.nodes t.names t.arcs t.flows r ≡ body_fault (periods_in rows) (drop 2 s.before) r =
+    ap (λ (x : Tables). record_fault x.periods x.nodes x.names x.arcs x.flows r) s.tables ∙ tables-fault (periods_in rows) (drop 2 s.before) r in
+    rw (there, not_first, not_second, row-here rows left place t r s, body-here rows (r ∷ left) place t s, same) refl
+
+pub so_far-refused : (rows left : List (List (List ℕ))) (place at : ℕ) (t : Tables) (r : List (List ℕ)) (c : Code) → IsSoFar rows (r ∷ left) place t → at ≡ place + 1
+    → (if is_kind r (codes "end") then fields_fault 1 r else record_fault t.periods t.nodes t.names t.arcs t.flows r) ≡ Some c → RefusesAt (refused.Fault at c) rows
+so_far-refused rows left place at t r c s e fault =
+    let within = inside rows left place t r s in
+    refuses-at rows place at c (omega arith) s.none (so_far-fault rows left place t r s ∙ fault) e
+
+pub so_far-no_end : (rows : List (List (List ℕ))) (place at : ℕ) (t : Tables) → IsSoFar rows [] place t → at ≡ place + 1 → RefusesAt (refused.Fault at code.NoEnd) rows
+so_far-no_end rows place at t s e =
+    let all = length-append s.before [] in
+    let size = s.size in
+    let end : length rows ≡ place = rw s.whole (omega arith) in
+    let out : nat_lt place (length rows) ≡ false = grind (arith, nat_tests) in
+    refuses-at rows place at code.NoEnd (omega arith) s.none (rw out refl) e
+
+pub so_far-end : (rows left : List (List (List ℕ))) (place at : ℕ) (t : Tables) (r : List (List ℕ)) → IsSoFar rows (r ∷ left) place t → at ≡ place + 1
+    → is_kind r (codes "end") ≡ true → fields_fault 1 r ≡ None → IsTextRead rows left t at
+so_far-end rows left place at t r s e end one =
+    let within = inside rows left place t r s in
+    let two = s.two in
+    let size = s.size in
+    let fault : fault_at rows place ≡ None = so_far-fault rows left place t r s ∙ rw (end, one) refl in
+    let alone : (length r == 1) ≡ true = unless-none _ _ one in
+    let past : nat_lt 1 place ≡ true = grind (arith, nat_tests) in
+    let stops : stops_at rows place ≡ true = rw (fault, past, row-here rows left place t r s, end, alone) refl in
+    let stop : stop_of rows ≡ place = stop-is rows place (omega arith) s.none stops in
+    let more = length_push s.before r in
+    record {
+      fault = rw stop fault;
+      records = rw stop e;
+      within = omega arith;
+      tables = s.tables ∙ ap (λ (l : List (List (List ℕ))). tables_of (periods_in rows) l) (sym (rw stop (body-here rows (r ∷ left) place t s)));
+      left = rw (s.whole, sym (append_assoc s.before (r ∷ []) left)) (sym (drop_at (s.before ++ r ∷ []) left at (omega arith)));
+    }
+
+periods-of : (periods : ℕ) (body : List (List (List ℕ))) → (tables_of periods body).periods ≡ periods
+unfolding tables_of
+periods-of periods body = refl
+
+drop-push : (before : List (List (List ℕ))) (r : List (List ℕ)) → 2 ≤ length before → drop 2 (before ++ r ∷ []) ≡ drop 2 before ++ r ∷ []
+drop-push [] r h = absurd (omega arith)
+drop-push (a ∷ []) r h = absurd (omega arith)
+drop-push (a ∷ b ∷ rest) r h = refl
+
+pub so_far-more : (rows left : List (List (List ℕ))) (place at : ℕ) (t u : Tables) (r : List (List ℕ)) → IsSoFar rows (r ∷ left) place t → at ≡ place + 1
+    → is_kind r (codes "end") ≡ false → record_fault t.periods t.nodes t.names t.arcs t.flows r ≡ None → u ≡ with_record t r → IsSoFar rows left at u
+so_far-more rows left place at t u r s e goes fine made =
+    let size = s.size in
+    let two = s.two in
+    let more = length_push s.before r in
+    let body = drop 2 s.before in
+    let same : record_fault t.periods t.nodes t.names t.arcs t.flows r ≡ body_fault (periods_in rows) body r =
+    ap (λ (x : Tables). record_fault x.periods x.nodes x.names x.arcs x.flows r) s.tables ∙ tables-fault (periods_in rows) body r in
+    let right : body_fault (periods_in rows) body r ≡ None = sym same ∙ fine in
+    let fault : fault_at rows place ≡ None = so_far-fault rows left place t r s ∙ rw (goes, fine) refl in
+    let here : stops_at rows place ≡ false = rw (fault, row-here rows left place t r s, goes) (and-false (nat_lt 1 place)) in
+    let grown = drop-push s.before r two in
+    let number : t.periods ≡ periods_in rows = ap (λ (x : Tables). x.periods) s.tables ∙ periods-of (periods_in rows) body in
+    record {
+      before = s.before ++ r ∷ [];
+      whole = s.whole ∙ sym (append_assoc s.before (r ∷ []) left);
+      size = omega arith;
+      two = omega arith;
+      none = λ i h. elim (cases_eq i place) [
+        | inl last ↦ rw last here
+        | inr other ↦ s.none i (omega arith)
+      ];
+      tables = made ∙ ap (λ (x : Tables). with_record x r) s.tables ∙ sym (tables-more (periods_in rows) body r s.fine right) ∙ ap (λ (l : List (List (List ℕ))). tables_of (periods_in rows) l) (sym grown);
+      fine = rw grown (fine-more body r s.fine (fine-none (periods_in rows) body r right));
+      room = rw made (room-more t r (rw number s.some) s.room fine);
+      some = s.some;
+    }
+  where
+    and-false : (b : Bool) → (b && false) ≡ false
+    and-false true = refl
+    and-false false = refl
+
+-- what taking a row answered
+
+pub row-refused : (e : Refused) (rows left : List (List (List ℕ))) (place at : ℕ) (t u : Tables) (r : List (List ℕ)) → IsSoFar rows (r ∷ left) place t → at ≡ place + 1
+    → TakesRow (Err e) t u r at → RefusesAt e rows
+row-refused (refused.Fault k c) rows left place at t u r s e h = so_far-refused rows left place k t r c s (h.0 ∙ e) h.1
+row-refused refused.Memory rows left place at t u r s e h = tt
+
+-- where reading is, and what is left
+pub so_far-size : (rows left : List (List (List ℕ))) (place : ℕ) (t : Tables) → IsSoFar rows left place t → place + length left ≡ length rows
+so_far-size rows left place t s =
+    let all = length-append s.before left in
+    let size = s.size in
+    rw s.whole (omega arith)

@@ -1,0 +1,6 @@
+pub mod Fields
+pub mod Network
+pub mod Faults
+pub mod Grammar
+pub mod Tables
+pub mod Reading

@@ -1,0 +1,121 @@
+//! The fields of network texts.
+
+ghost use Rattle.std.specs.Prelude.{◌≡◌, ◌<◌, ◌≤◌, ◌&&◌, nat_le, nat_lt, not, true, IfOk, IfSome, IsTrue, length, codes, Some, None, is_some, if◌then◌else◌};
+ghost use Rattle.std.specs.List.{list_all};
+ghost use Rattle.np_frac.specs.Ratio.{zero_ratio};
+ghost use Rattle.np_frac.specs.Text.{number};
+ghost use Rattle.np_frac.specs.Amount.{amount_of, is_amount};
+ghost use Rattle.np_records.specs.Names.{place_of};
+ghost use Rattle.np_model.specs.Valid.{is_graphic, is_name, is_amount_or_infinite};
+ghost use Rattle.csv.specs.Records.{fields_of};
+ghost use Rattle.net_csv.specs.Fields.{Reads, is_period, amount_fault, upper_fault, upper_of, gain_fault, period_fault, period_of, new_fault, used_fault, place_in, fields_fault};
+
+use crate::refused::Code;
+use np_frac::{Frac, read_amount, read_number};
+use np_model::Upper;
+use np_records::{ByteRecord, NameTable};
+
+/// An amount.
+pub(crate) fn amount(bytes: &[u8]) -> Result<Frac, Code>
+    ensures value { Reads result (amount_fault bytes.now) (amount_of bytes.now) }
+    ensures amount { IfOk result (λ f. is_amount f ≡ true) }
+{
+    read_amount(bytes).ok_or(Code::BadNumber)
+}
+
+/// An upper bound or a width: an amount or `inf`.
+pub(crate) fn upper(bytes: &[u8]) -> Result<Upper, Code>
+    ensures value { Reads result (upper_fault bytes.now) (upper_of bytes.now) }
+    ensures amount { IfOk result (λ u. is_amount_or_infinite u ≡ true) }
+{
+    if bytes == b"inf".as_slice() {
+        return Ok(Upper::Infinite);
+    }
+    Ok(Upper::Finite(amount(bytes)?))
+}
+
+/// A gain: an amount above 0.
+pub(crate) fn gain(bytes: &[u8]) -> Result<Frac, Code>
+    ensures value { Reads result (gain_fault bytes.now) (amount_of bytes.now) }
+    ensures amount { IfOk result (λ f. is_amount f ≡ true) }
+{
+    let gain = amount(bytes)?;
+    if !Frac::whole(0).is_below(gain) {
+        return Err(Code::BadGain);
+    }
+    Ok(gain)
+}
+
+/// A period from 1 to `most`, in 1 to 9 digits.
+pub(crate) fn whole_period(most: u32, bytes: &[u8]) -> Option<u32>
+    ensures { result ≡ (if is_period most bytes.now then Some (number bytes.now) else None) }
+{
+    match read_number(bytes, 9) {
+        None => None,
+        Some(period) if period < 1 => None,
+        Some(period) if u64::from(most) < period => None,
+        Some(period) => Some(period as u32),
+    }
+}
+
+/// The period of a supply, or `None` for every period.
+pub(crate) fn period(periods: u32, bytes: &[u8]) -> Result<Option<u32>, Code>
+    ensures { Reads result (period_fault periods bytes.now) (period_of bytes.now) }
+{
+    if bytes == b"*".as_slice() {
+        return Ok(None);
+    }
+    match whole_period(periods, bytes) {
+        Some(period) => Ok(Some(period)),
+        None => Err(Code::BadPeriod),
+    }
+}
+
+// Whether each byte prints and is no space.
+fn is_graphic(bytes: &[u8]) -> bool
+    ensures { result ≡ list_all is_graphic bytes.now }
+{
+    bytes.iter().all(|byte| 33 <= *byte && *byte <= 126)
+}
+
+// Whether these bytes are a name.
+fn is_name(bytes: &[u8]) -> bool
+    ensures { result ≡ is_name bytes.now }
+{
+    let size = bytes.len();
+    if size == 0 || 64 < size {
+        return false;
+    }
+    is_graphic(bytes)
+}
+
+/// Looks whether a name may be defined.
+pub(crate) fn new_name(names: &NameTable, name: &[u8]) -> Result<(), Code>
+    ensures { Reads result (new_fault names.now name.now) tt }
+{
+    if !is_name(name) {
+        return Err(Code::BadName);
+    }
+    if names.index_of(name).is_some() {
+        return Err(Code::Repeated);
+    }
+    Ok(())
+}
+
+/// The number of a name that is used.
+pub(crate) fn used_name(names: &NameTable, name: &[u8]) -> Result<usize, Code>
+    ensures value { Reads result (used_fault names.now name.now) (place_in names.now name.now) }
+    ensures within { IfOk result (λ place. place < length names.now) }
+{
+    names.index_of(name).ok_or(Code::NoSuchName)
+}
+
+/// Looks whether the record has this many fields.
+pub(crate) fn fields(row: &ByteRecord, count: usize) -> Result<(), Code>
+    ensures { Reads result (fields_fault count (fields_of row.now)) tt }
+{
+    if row.len() != count {
+        return Err(Code::FieldCount);
+    }
+    Ok(())
+}
