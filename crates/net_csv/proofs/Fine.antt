@@ -26,12 +26,12 @@ pub or-rest : (a b : Option Code) → option_or a b ≡ None → b ≡ None
 or-rest None b h = h
 or-rest (Some c) b h = absurd (cc h)
 
-used-some : (ns : List (List ℕ)) (n : List ℕ) → used_fault ns n ≡ None → IsSome (place_of ns n)
+pub used-some : (ns : List (List ℕ)) (n : List ℕ) → used_fault ns n ≡ None → IsSome (place_of ns n)
 used-some ns n h = by (place_of ns n) h
   where
     by : (o : Option ℕ) → unless (is_some o) NoSuchName ≡ None → IsSome o
     by None e = absurd (cc e)
-    by (Some x) e = cc e
+    by (Some x) e = refl
 
 -- the nodes that a flow joins
 kind-node : (ns : List (List ℕ)) (r : List (List ℕ)) → kind_fault ns r ≡ None → IsSome (place_of ns (field_of r 2))

@@ -10,3 +10,5 @@ mod Room
 mod SoFar
 mod HeadFacts
 mod Tails
+mod Kept
+mod SupplyFacts

@@ -1,9 +1,9 @@
 -- The places of names when names are appended, and lists of distinct names.
-use Rattle.std.specs.Prelude.{◌≡◌, ◌≢◌, ℕ, ◌+◌, ◌<◌, false, Option, Some, None, IsSome, unwrap_or, option_map, List, [], ◌∷◌, ◌++◌, length, slice_get, suc, zero}
+use Rattle.std.specs.Prelude.{◌≡◌, ◌≢◌, ℕ, ◌+◌, ◌<◌, false, Option, Some, None, IsSome, unwrap_or, option_map, List, [], ◌∷◌, ◌++◌, length, take, slice_get, suc, zero}
 use Rattle.std.specs.List.{AllByRecursion, IsDistinct}
 use Rattle.std.specs.Option.{option_or}
 use Rattle.std.specs.Str.{bytes_eq}
-use Rattle.std.proofs.Common.{refl, sym, ap, ◌∙◌, inl, inr, arith}
+use Rattle.std.proofs.Common.{refl, sym, ap, ◌∙◌, inl, inr, arith, add-one}
 use Rattle.std.proofs.lemmas.Bool.{cases_Bool}
 use Rattle.std.proofs.lemmas.Slice.Eq.{bytes_eq-Decides}
 use Rattle.np_records.specs.Names.{place_of}
@@ -79,3 +79,9 @@ distinct-push (m ∷ ms) n d e =
 pub distinct-none : IsDistinct bytes_eq []
 unfolding IsDistinct
 distinct-none = tt
+
+-- a name more of a list
+pub take-get : (names : List (List ℕ)) (k : ℕ) (n : List ℕ) → slice_get names k ≡ Some n → take (k + 1) names ≡ take k names ++ n ∷ []
+take-get [] k n e = absurd (cc e)
+take-get (m ∷ ms) zero n e = let same : m ≡ n = cc e in rw same refl
+take-get (m ∷ ms) (suc k) n e = rw add-one (ap (λ (l : List (List ℕ)). m ∷ l) (rw add-one at (take-get ms k n e)))

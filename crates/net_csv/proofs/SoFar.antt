@@ -1,8 +1,8 @@
 -- Reading the records of a text, one by one.
-use Rattle.std.specs.Prelude.{◌≡◌, ℕ, suc, zero, ◌+◌, ◌<◌, ◌≤◌, ◌==◌, ◌&&◌, nat_lt, Bool, true, false, Some, None, List, [], ◌∷◌, ◌++◌, length, drop, slice_get, Err, codes, if◌then◌else◌}
+use Rattle.std.specs.Prelude.{◌≡◌, ℕ, suc, zero, ◌+◌, ◌^◌, ◌<◌, ◌≤◌, ◌==◌, ◌&&◌, nat_lt, Bool, true, false, Some, None, List, [], ◌∷◌, ◌++◌, length, drop, slice_get, Err, codes, if◌then◌else◌}
 use Rattle.std.specs.List.{AllByRecursion}
 use Rattle.std.proofs.Common.{refl, sym, ap, ◌∙◌, inl, inr, arith, append_assoc}
-use Rattle.std.proofs.lemmas.Bool.{cases_eq}
+use Rattle.std.proofs.lemmas.Bool.{cases_eq, cases_Bool}
 use Rattle.std.proofs.lemmas.Bool.Decides.{nat_tests}
 use Rattle.std.proofs.lemmas.List.{length_push, length-append, take_at, drop_at}
 use Rattle.net_csv.specs.declared.refused.Code.{Code}
@@ -10,14 +10,16 @@ use Rattle.net_csv.specs.declared.refused.Code.TheVariants as code
 use Rattle.net_csv.specs.declared.refused.Refused.{Refused}
 use Rattle.net_csv.specs.declared.refused.Refused.TheVariants as refused
 use Rattle.net_csv.specs.Fields.{fields_fault}
-use Rattle.net_csv.specs.Network.{is_kind, node_names, flow_names}
+use Rattle.net_csv.specs.Network.{is_kind, is_flow, node_names, flow_names}
 use Rattle.net_csv.specs.Faults.{record_fault, body_fault}
 use Rattle.net_csv.specs.Grammar.{row_at, body_before, periods_in, fault_at, stops_at, stop_of}
-use Rattle.net_csv.specs.Tables.{Tables, TakesRow, HasRoom, tables_of, no_tables, with_record}
+use Rattle.net_csv.specs.Tables.{Tables, TakesRow, HasRoom, AreKept, IsReady, tables_of, no_tables, with_record}
 use Rattle.net_csv.specs.Reading.{IsHeadRead, IsTextRead, RefusesAt}
 use Rattle.net_csv.proofs.RowKinds.{IsFine}
 use Rattle.net_csv.proofs.Fine.{fine-none, fine-more, tables-more}
 use Rattle.net_csv.proofs.Room.{room-more, unless-none}
+use Rattle.net_csv.proofs.Steps.{flows-count}
+use Rattle.net_csv.proofs.Kept.{kept-none, kept-more}
 use Rattle.net_csv.proofs.Stops.{stop-is, refuses-at}
 
 pub record IsSoFar (rows left : List (List (List ℕ))) (place : ℕ) (t : Tables) : Type 0 where
@@ -29,6 +31,7 @@ pub record IsSoFar (rows left : List (List (List ℕ))) (place : ℕ) (t : Table
   pub tables : t ≡ tables_of (periods_in rows) (drop 2 before)
   pub fine : AllByRecursion (IsFine (node_names (drop 2 before)) (flow_names (drop 2 before))) (drop 2 before)
   pub room : HasRoom t
+  pub kept : AreKept t
   pub some : 0 < periods_in rows
 
 -- ---- the head
@@ -57,8 +60,37 @@ so_far-head (a ∷ b ∷ rest) left periods t h e =
       tables = e ∙ sym (empty-tables periods) ∙ ap (λ (k : ℕ). tables_of k []) number;
       fine = tt;
       room = rw e (record { one_each = refl; periods = few; nodes = omega arith; arcs = omega arith });
+      kept = rw e (kept-none periods);
       some = rw (sym number) h.some;
     }
+
+-- ---- tables that are those of a scheme
+
+drop-short : {X : Type 0} (n : ℕ) (xs : List X) → length (drop n xs) ≤ length xs
+drop-short zero xs = omega arith
+drop-short (suc n) [] = omega arith
+drop-short (suc n) (x ∷ xs) = let h = drop-short n xs in omega arith
+
+names-short : (rows : List (List (List ℕ))) → length (flow_names rows) ≤ length rows
+names-short [] = omega arith
+names-short (r ∷ rs) = let h = names-short rs in elim (cases_Bool (is_flow r)) [
+  | inl t ↦ rw t (omega arith)
+  | inr f ↦ rw f (omega arith)
+]
+
+ready-of : (periods : ℕ) (body : List (List (List ℕ))) → 0 < periods → length body < 2 ^ 32 → AreKept (tables_of periods body) → HasRoom (tables_of periods body) → IsReady (tables_of periods body)
+unfolding tables_of
+ready-of periods body some few kept room =
+    let count = flows-count body in
+    let short = names-short body in
+    record { kept = kept; some_period = some; few_periods = room.periods; few_flows = omega arith; few_arcs = room.arcs }
+
+ready-here : (rows left : List (List (List ℕ))) (place : ℕ) (t : Tables) → IsSoFar rows left place t → length rows < 2 ^ 32 → IsReady t
+ready-here rows left place t s few =
+    let all = length-append s.before left in
+    let short = drop-short 2 s.before in
+    let size : length rows ≡ length (s.before ++ left) = ap length s.whole in
+    rw s.tables (ready-of (periods_in rows) (drop 2 s.before) s.some (omega arith) (rw s.tables at s.kept) (rw s.tables at s.room))
 
 -- ---- a record
 
@@ -111,8 +143,8 @@ so_far-no_end rows place at t s e =
     refuses-at rows place at code.NoEnd (omega arith) s.none (rw out refl) e
 
 pub so_far-end : (rows left : List (List (List ℕ))) (place at : ℕ) (t : Tables) (r : List (List ℕ)) → IsSoFar rows (r ∷ left) place t → at ≡ place + 1
-    → is_kind r (codes "end") ≡ true → fields_fault 1 r ≡ None → IsTextRead rows left t at
-so_far-end rows left place at t r s e end one =
+    → is_kind r (codes "end") ≡ true → fields_fault 1 r ≡ None → length rows < 2 ^ 32 → IsTextRead rows left t at
+so_far-end rows left place at t r s e end one few =
     let within = inside rows left place t r s in
     let two = s.two in
     let size = s.size in
@@ -127,6 +159,7 @@ so_far-end rows left place at t r s e end one =
       records = rw stop e;
       within = omega arith;
       tables = s.tables ∙ ap (λ (l : List (List (List ℕ))). tables_of (periods_in rows) l) (sym (rw stop (body-here rows (r ∷ left) place t s)));
+      ready = ready-here rows (r ∷ left) place t s few;
       left = rw (s.whole, sym (append_assoc s.before (r ∷ []) left)) (sym (drop_at (s.before ++ r ∷ []) left at (omega arith)));
     }
 
@@ -165,6 +198,7 @@ so_far-more rows left place at t u r s e goes fine made =
       tables = made ∙ ap (λ (x : Tables). with_record x r) s.tables ∙ sym (tables-more (periods_in rows) body r s.fine right) ∙ ap (λ (l : List (List (List ℕ))). tables_of (periods_in rows) l) (sym grown);
       fine = rw grown (fine-more body r s.fine (fine-none (periods_in rows) body r right));
       room = rw made (room-more t r (rw number s.some) s.room fine);
+      kept = rw made (kept-more t r s.kept fine);
       some = s.some;
     }
   where

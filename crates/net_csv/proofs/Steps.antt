@@ -138,7 +138,8 @@ bands-count n (h ∷ hs) ps = let rest = bands-count (n + 1) hs ps in omega arit
 pub flows-count : (rows : List (List (List ℕ))) → length (flows_of rows) ≡ length (flow_names rows)
 flows-count rows = bands-count 0 (heads_of rows) (pieces_of rows) ∙ heads-count (node_names rows) rows
 
-there : {X : Type 0} (xs : List X) (k : ℕ) → k < length xs → (x : X) × (slice_get xs k ≡ Some x)
+-- what stands at a place
+pub there : {X : Type 0} (xs : List X) (k : ℕ) → k < length xs → (x : X) × (slice_get xs k ≡ Some x)
 there [] k h = absurd (omega arith)
 there (x ∷ xs) zero h = (x, refl)
 there (x ∷ xs) (suc k) h = there xs k (omega arith)

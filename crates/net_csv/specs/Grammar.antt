@@ -1,9 +1,9 @@
 -- The network texts, over the list of their records: the first fault, or the number of records up to and with `end`.
-use Rattle.std.specs.Prelude.{◌≡◌, ℕ, ◌+◌, ◌*◌, ◌/◌, ◌%◌, ◌&&◌, ◌||◌, ◌==◌, nat_lt, not, Bool, Option, Some, None, List, [], ◌∷◌, length, map, take, drop, codes, slice_get, unwrap_or, Result, Ok, Err, if◌then◌else◌}
+use Rattle.std.specs.Prelude.{◌≡◌, ℕ, ◌+◌, ◌*◌, ◌&&◌, ◌||◌, ◌==◌, nat_lt, not, Bool, Option, Some, None, List, [], ◌∷◌, length, map, take, drop, codes, slice_get, unwrap_or, Result, Ok, Err, if◌then◌else◌}
 use Rattle.std.specs.List.{range_with_len, find}
 use Rattle.std.specs.Option.{option_map_or, is_some}
 use Rattle.std.specs.Str.{bytes_eq}
-use Rattle.np_frac.specs.Ratio.{Ratio, zero_ratio}
+use Rattle.np_frac.specs.Ratio.{Ratio}
 use Rattle.np_frac.specs.Text.{number}
 use Rattle.np_records.specs.Records.{field_of}
 use Rattle.np_model.specs.declared.scheme.Scheme.{Scheme}
@@ -12,7 +12,7 @@ use Rattle.net_csv.specs.declared.refused.Code.TheVariants as code
 use Rattle.net_csv.specs.declared.refused.Tail.{Tail}
 use Rattle.net_csv.specs.declared.refused.Tail.TheVariants as tail
 use Rattle.net_csv.specs.Fields.{first_fault, unless, fields_fault, is_period}
-use Rattle.net_csv.specs.Network.{is_kind, node_names, supplies_of, last_given, flows_of}
+use Rattle.net_csv.specs.Network.{is_kind, node_names, supplies_of, supply_from, flows_of}
 use Rattle.net_csv.specs.Faults.{body_fault}
 
 -- ---- the records at the head
@@ -81,11 +81,9 @@ read_records t rows =
 abbrev pub body_of : List (List (List ℕ)) → List (List (List ℕ))
 body_of rows = body_before rows (stop_of rows)
 
--- the supply at a place of the scheme: with n nodes, node i in period P stands at (P - 1) * n + i; 0 where none is given
+-- the supply at a place of the scheme
 abbrev pub supply_at : List (List (List ℕ)) → ℕ → Ratio
-supply_at body place =
-    let n = length (node_names body) in
-    unwrap_or (last_given (supplies_of body) (place % n) (place / n + 1)) zero_ratio
+supply_at body place = supply_from (length (node_names body)) (supplies_of body) place
 
 -- the scheme of a text without a fault
 pub record IsSchemeOf (rows : List (List (List ℕ))) (scheme : Scheme) : Type 0 where

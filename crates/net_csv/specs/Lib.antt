@@ -4,3 +4,4 @@ pub mod Faults
 pub mod Grammar
 pub mod Tables
 pub mod Reading
+pub mod Supply

@@ -1,9 +1,9 @@
 -- What the records of a network text define: names, amounts, flows and their bands.
-use Rattle.std.specs.Prelude.{ℕ, ◌+◌, ◌==◌, ◌&&◌, ◌||◌, Bool, true, Option, Some, None, option_map, List, [], ◌∷◌, codes, if◌then◌else◌}
+use Rattle.std.specs.Prelude.{ℕ, ◌+◌, ◌/◌, ◌%◌, ◌==◌, ◌&&◌, ◌||◌, Bool, true, Option, Some, None, unwrap_or, option_map, List, [], ◌∷◌, codes, if◌then◌else◌}
 use Rattle.std.specs.List.{filter_map}
 use Rattle.std.specs.Option.{option_or, option_map_or}
 use Rattle.std.specs.Str.{bytes_eq}
-use Rattle.np_frac.specs.Ratio.{Ratio}
+use Rattle.np_frac.specs.Ratio.{Ratio, zero_ratio}
 use Rattle.np_frac.specs.Amount.{amount_of}
 use Rattle.np_records.specs.Names.{place_of}
 use Rattle.np_records.specs.Records.{field_of}
@@ -56,6 +56,11 @@ last_given (given ∷ later) node period =
 
 abbrev pub supplies_of : List (List (List ℕ)) → List Given
 supplies_of rows = filter_map (given_in (node_names rows)) rows
+
+-- where these amounts are given, the supply at a place of the scheme: with n nodes, node i in period P stands at (P - 1) * n + i;
+-- 0 where none is given
+abbrev pub supply_from : ℕ → List Given → ℕ → Ratio
+supply_from n supplies place = unwrap_or (last_given supplies (place % n) (place / n + 1)) zero_ratio
 
 -- ---- flows
 

@@ -3,8 +3,10 @@ use Rattle.std.specs.Prelude.{◌≡◌, ℕ, ◌+◌, ◌<◌, ◌≤◌, ⊤, 
 use Rattle.net_csv.specs.declared.refused.Code.{Code}
 use Rattle.net_csv.specs.declared.refused.Refused.{Refused}
 use Rattle.net_csv.specs.declared.refused.Refused.TheVariants as refused
-use Rattle.net_csv.specs.Grammar.{fault_at, stop_of, periods_in, body_of}
-use Rattle.net_csv.specs.Tables.{Tables, tables_of}
+use Rattle.np_model.specs.declared.scheme.Scheme.{Scheme}
+use Rattle.net_csv.specs.declared.refused.Tail.{Tail}
+use Rattle.net_csv.specs.Grammar.{IsSchemeOf, read_records, fault_at, stop_of, periods_in, body_of}
+use Rattle.net_csv.specs.Tables.{Tables, IsReady, tables_of}
 
 -- reading stops at this fault, or memory ran out
 abbrev pub RefusesAt : Refused → List (List (List ℕ)) → Type 0
@@ -27,10 +29,21 @@ pub record IsTextRead (rows after : List (List (List ℕ))) (t : Tables) (count 
   pub records : count ≡ stop_of rows + 1
   pub within : count ≤ length rows
   pub tables : t ≡ tables_of (periods_in rows) (body_of rows)
+  pub ready : IsReady t
   pub left : after ≡ drop count rows
 
--- the answer is what the grammar tells, unless memory ran out
-abbrev pub AnswersAs : Result ℕ Refused → Result ℕ (ℕ × Code) → Type 0
-AnswersAs (Ok count) told = told ≡ Ok count
-AnswersAs (Err (refused.Fault place c)) told = told ≡ Err (place, c)
-AnswersAs (Err refused.Memory) told = ⊤
+-- what the grammar tells is this fault, or memory ran out
+abbrev pub IsRefusal : Refused → Result ℕ (ℕ × Code) → Type 0
+IsRefusal (refused.Fault place c) told = told ≡ Err (place, c)
+IsRefusal refused.Memory told = ⊤
+
+-- the answer is what the grammar tells, unless memory ran out: the scheme of the text and its number of records, or its first fault
+abbrev pub ReadsScheme : Tail → List (List (List ℕ)) → Result (Scheme × ℕ) Refused → Type 0
+ReadsScheme tail rows (Ok (scheme, count)) = (read_records tail rows ≡ Ok count) × IsSchemeOf rows scheme
+ReadsScheme tail rows (Err why) = IsRefusal why (read_records tail rows)
+
+-- the text has no fault, and these are the tables of its body
+pub record IsWholeRead (tail : Tail) (rows : List (List (List ℕ))) (t : Tables) (count : ℕ) : Type 0 where
+  pub told : read_records tail rows ≡ Ok count
+  pub tables : t ≡ tables_of (periods_in rows) (body_of rows)
+  pub ready : IsReady t

@@ -1,12 +1,14 @@
 -- What the reader keeps of the records of the body that it has read, and what each record adds.
-use Rattle.std.specs.Prelude.{Bool, true, false, ◌≡◌, ℕ, ◌+◌, ◌≤◌, ⊤, Option, Some, None, Result, Ok, Err, List, [], ◌∷◌, ◌++◌, length, set, slice_get, codes, if◌then◌else◌}
+use Rattle.std.specs.Prelude.{Bool, true, false, ◌≡◌, ℕ, ◌+◌, ◌*◌, ◌^◌, ◌<◌, ◌≤◌, ⊤, Option, Some, None, IfSome, Result, Ok, Err, List, [], ◌∷◌, ◌++◌, length, map, set, slice_get, codes, if◌then◌else◌}
+use Rattle.std.specs.List.{All, range_with_len}
 use Rattle.std.specs.Option.{option_map_or}
-use Rattle.np_frac.specs.Amount.{amount_of}
+use Rattle.np_frac.specs.Amount.{amount_of, is_amount}
 use Rattle.np_records.specs.Records.{field_of}
 use Rattle.np_model.specs.declared.scheme.FlowKind.{FlowKind}
 use Rattle.np_model.specs.declared.scheme.Band.{Band}
 use Rattle.np_model.specs.declared.scheme.Flow.{Flow}
-use Rattle.np_model.specs.Valid.{periods_of, expanded_arcs}
+use Rattle.np_model.specs.declared.scheme.Scheme.{Scheme}
+use Rattle.np_model.specs.Valid.{AreNames, IsSound, periods_of, expanded_arcs}
 use Rattle.net_csv.specs.declared.refused.Code.{Code}
 use Rattle.net_csv.specs.declared.refused.Refused.{Refused}
 use Rattle.net_csv.specs.declared.refused.Refused.TheVariants as refused
@@ -16,7 +18,7 @@ use Rattle.net_csv.specs.declared.given.Given.{Given}
 use Rattle.net_csv.specs.declared.draft.Head.{Head}
 use Rattle.net_csv.specs.declared.numbers.Numbers.{Numbers}
 use Rattle.net_csv.specs.Fields.{fields_fault, upper_of, period_of, place_in}
-use Rattle.net_csv.specs.Network.{is_kind, is_flow, kind_in, bounds_place, node_names, flow_names, supplies_of, flows_of}
+use Rattle.net_csv.specs.Network.{is_kind, is_flow, kind_in, bounds_place, node_names, flow_names, supplies_of, supply_from, flows_of}
 use Rattle.net_csv.specs.Faults.{record_fault, band_of}
 
 pub record Tables : Type 0 where
@@ -44,6 +46,36 @@ pub record HasRoom (t : Tables) : Type 0 where
   pub periods : t.periods ≤ 20000
   pub nodes : length t.nodes ≤ 20000
   pub arcs : t.arcs ≤ 100000
+
+-- an amount is given to one of so many nodes, in one of so many periods or in each
+pub record IsGiven (nodes periods : ℕ) (given : Given) : Type 0 where
+  pub node : given.node < nodes
+  pub period : IfSome given.period (λ p. (1 ≤ p) × (p ≤ periods))
+  pub amount : is_amount given.amount ≡ true
+
+-- names are names and distinct, flows sound, supplies given to nodes, and nodes few
+pub record AreKept (t : Tables) : Type 0 where
+  pub nodes : AreNames t.nodes
+  pub flow_names : AreNames t.names
+  pub same_names : map (λ (f : Flow). f.name) t.flows ≡ t.names
+  pub sound : All (IsSound (length t.nodes)) t.flows
+  pub supplies : All (IsGiven (length t.nodes) t.periods) t.supplies
+  pub few_nodes : length t.nodes * t.periods ≤ 20000
+
+-- and besides so many periods, flows and arcs that they are those of a scheme
+pub record IsReady (t : Tables) : Type 0 where
+  pub kept : AreKept t
+  pub some_period : 0 < t.periods
+  pub few_periods : t.periods ≤ 20000
+  pub few_flows : length t.flows < 2 ^ 32
+  pub few_arcs : expanded_arcs t.periods t.flows ≤ 100000
+
+-- the scheme of these tables
+pub record IsMadeOf (t : Tables) (scheme : Scheme) : Type 0 where
+  pub periods : scheme.periods ≡ t.periods
+  pub nodes : scheme.nodes ≡ t.nodes
+  pub supply : scheme.supply ≡ map (supply_from (length t.nodes) t.supplies) (range_with_len 0 (t.periods * length t.nodes))
+  pub flows : scheme.flows ≡ t.flows
 
 -- the tables of no record
 abbrev pub no_tables : ℕ → Tables

@@ -8,7 +8,7 @@ ghost use Rattle.np_model.specs.Valid.{periods_of};
 ghost use Rattle.net_csv.specs.declared.refused.Stop.{Stop};
 ghost use Rattle.net_csv.specs.Fields.{Reads};
 ghost use Rattle.net_csv.specs.Faults.{node_fault, supply_fault, head_fault, flow_fault, piece_fault, band_fault, record_fault, has_finite_end, present_slope};
-ghost use Rattle.net_csv.specs.Tables.{HasRoom, Takes, head_of, no_tables, plain_flow, flow_added, band_added, banded, with_node, with_supply, with_flow, with_piece, with_record};
+ghost use Rattle.net_csv.specs.Tables.{HasRoom, IsMadeOf, IsReady, Takes, head_of, no_tables, plain_flow, flow_added, band_added, banded, with_node, with_supply, with_flow, with_piece, with_record};
 
 use crate::fields::{amount, fields, new_name, period, upper, used_name};
 use crate::given::Given;
@@ -17,8 +17,9 @@ use crate::numbers::{
     Numbers, bounds, is_finite, is_wide, periods_of, read_numbers, room_of_arcs, room_of_nodes,
 };
 use crate::refused::{Code, Stop};
+use crate::supply::supply_of;
 use np_frac::{Frac, Memory};
-use np_model::{Band, Bands, Flow, FlowKind, Name, Upper};
+use np_model::{Band, Bands, Flow, FlowKind, Flows, Name, Names, Scheme, Upper};
 use np_records::{ByteRecord, NameTable, field};
 use std::alloc::Global;
 use std::marker::Model;
@@ -277,4 +278,38 @@ impl Draft {
         }
         Err(Stop::Fault(Code::Unknown))
     }
+
+    /// The scheme of what was taken.
+    pub(crate) fn into_scheme(self, alloc: Global) -> Result<Scheme, Memory>
+        requires { IsReady self }
+        ensures { IfOk result (λ scheme. IsMadeOf self scheme) }
+    {
+        let Draft {
+            periods,
+            nodes,
+            supplies,
+            flows,
+            ..
+        } = self;
+        let supply = supply_of(alloc, periods, nodes.len(), &supplies)?;
+        let nodes = names_of(alloc, &nodes)?;
+        Ok(Scheme {
+            periods,
+            nodes,
+            supply,
+            flows: Flows { items: flows },
+        })
+    }
+}
+
+// The names of a table, in order.
+fn names_of(alloc: Global, table: &NameTable) -> Result<Names, Memory>
+    ensures { IfOk result (λ names. names ≡ table.now) }
+{
+    let mut items = Vec::new(alloc);
+    for place in 0..table.len() {
+        let name = Vec::from_slice(alloc, table.name_at(place))?;
+        items.push(Name { items: name })?;
+    }
+    Ok(Names { items })
 }

@@ -1,4 +1,4 @@
-//! Network texts: whether a text is one, or its first fault.
+//! Network texts: the scheme of one, or its first fault.
 #![tactic(auto)]
 
 mod draft;
@@ -8,8 +8,9 @@ mod kinds;
 mod numbers;
 mod reading;
 mod refused;
+mod supply;
 
-pub use reading::check_text;
+pub use reading::read_scheme;
 pub use refused::{Code, Refused, Tail};
 
 #[cfg(test)]

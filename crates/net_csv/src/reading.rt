@@ -8,12 +8,13 @@ ghost use Rattle.net_csv.specs.declared.refused.Code.TheVariants as code;
 ghost use Rattle.net_csv.specs.Fields.{Reads, unless};
 ghost use Rattle.net_csv.specs.Tables.{HasRoom, TakesRow};
 ghost use Rattle.net_csv.specs.Grammar.{is_header, periods_fault, read_records};
-ghost use Rattle.net_csv.specs.Reading.{AnswersAs, IsHeadRead, IsTextRead, RefusesAt};
+ghost use Rattle.net_csv.specs.Reading.{IsHeadRead, IsTextRead, IsWholeRead, IsRefusal, ReadsScheme, RefusesAt};
 
 use crate::draft::Draft;
 use crate::fields::{fields, whole_period};
 use crate::kinds::is_kind;
 use crate::refused::{Code, Refused, Stop, Tail};
+use np_model::Scheme;
 use np_records::{ByteRecord, Records, field};
 use std::alloc::Global;
 
@@ -117,18 +118,17 @@ pub(crate) fn read_text(alloc: Global, records: &mut Records) -> Result<(Draft, 
     }
 }
 
-/// Tells whether a text is a network text, and how many records it has up to and with `end`.
-///
-/// Where it is none, its first fault is answered: the number of its record, from 1, and what is wrong there. With
-/// `Tail::Plan` what stands behind `end` is not read. `Memory` comes where memory ran out.
-pub fn check_text(alloc: Global, bytes: &[u8], tail: Tail) -> Result<u32, Refused>
+// Reads a whole text, and answers what it gives and how many records it has up to and with `end`.
+fn read_whole(alloc: Global, bytes: &[u8], tail: Tail) -> Result<(Draft, u32), Refused>
     requires { length bytes.now < 2 ^ 32 }
-    ensures { AnswersAs result (read_records tail (records_of bytes.now)) }
+    ensures { MatchResult result
+        (λ read. IsWholeRead tail (records_of bytes.now) read.0 read.1)
+        (λ refused. IsRefusal refused (read_records tail (records_of bytes.now))) }
 {
     let mut records = Records::new(alloc, bytes);
-    let (_, count) = read_text(alloc, &mut records)?;
+    let (draft, count) = read_text(alloc, &mut records)?;
     match tail {
-        Tail::Plan => Ok(count),
+        Tail::Plan => Ok((draft, count)),
         Tail::Nothing => {
             let mut row = ByteRecord::new(alloc);
             if records.read(&mut row)? {
@@ -137,7 +137,21 @@ pub fn check_text(alloc: Global, bytes: &[u8], tail: Tail) -> Result<u32, Refuse
                     code: Code::AfterEnd,
                 });
             }
-            Ok(count)
+            Ok((draft, count))
         }
     }
+}
+
+/// Reads a network text: its scheme, and how many records it has up to and with `end`.
+///
+/// Where the bytes are no network text, its first fault is answered: the number of its record, from 1, and what is wrong
+/// there. With `Tail::Plan` what stands behind `end` is not read. `Memory` comes where memory ran out. It takes time and
+/// memory in proportion to the text and to the nodes over all periods.
+pub fn read_scheme(alloc: Global, bytes: &[u8], tail: Tail) -> Result<(Scheme, u32), Refused>
+    requires { length bytes.now < 2 ^ 32 }
+    ensures { ReadsScheme tail (records_of bytes.now) result }
+{
+    let (draft, count) = read_whole(alloc, bytes, tail)?;
+    let scheme = draft.into_scheme(alloc)?;
+    Ok((scheme, count))
 }

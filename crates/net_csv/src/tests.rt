@@ -1,4 +1,4 @@
-use crate::{Code, Refused, Tail, check_text};
+use crate::{Code, Refused, Tail, read_scheme};
 use std::test::Fail;
 
 // The records of a text, as they are written in a table: `|` between them, and a line end behind each.
@@ -64,7 +64,7 @@ fn first_faults(rt: HostRuntime) -> Result<(), Fail> {
         if 1000 < text.len() {
             return Err(Fail::from("long"));
         }
-        let got = check_text(rt.alloc(), &text, Tail::Nothing);
+        let got = read_scheme(rt.alloc(), &text, Tail::Nothing);
         assert!(rt;
             got == Err(Refused::Fault { place, code }),
             "at {records:?}: {got:?}"
@@ -77,8 +77,8 @@ fn first_faults(rt: HostRuntime) -> Result<(), Fail> {
 fn network_texts(rt: HostRuntime) -> Result<(), Fail> {
     let every =
         b"netplan,1\r\nperiods,2\n\nnode,\"a,b\"\rnode,c\nsupply,c,*,-1/3\nsupply,c,2,0.5\narc,x,c,\"a,b\",1/2,-1,inf,0\nhold,h,c,1,0,1,1\ndrain,d,c,0,1,1\nfeed,f,c,0,1,1\npiece,f,2,1\npiece,f,inf,3\nend";
-    assert!(rt; check_text(rt.alloc(), every, Tail::Nothing) == Ok(13));
+    assert!(rt; read_scheme(rt.alloc(), every, Tail::Nothing) == Ok(13));
     let behind = b"netplan,1\nperiods,1\nend\nnetplan-plan,1\n";
-    assert!(rt; check_text(rt.alloc(), behind, Tail::Plan) == Ok(3));
+    assert!(rt; read_scheme(rt.alloc(), behind, Tail::Plan) == Ok(3));
     Ok(())
 }
