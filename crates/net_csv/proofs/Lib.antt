@@ -12,3 +12,4 @@ mod HeadFacts
 mod Tails
 mod Kept
 mod SupplyFacts
+mod SchemeValid

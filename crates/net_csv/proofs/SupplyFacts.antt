@@ -1,14 +1,14 @@
 -- Amounts that are taken from the last one backwards.
-use Rattle.std.specs.Prelude.{◌≡◌, ◌≢◌, ℕ, suc, zero, ◌+◌, ◌-◌, ◌*◌, ◌/◌, ◌%◌, ◌<◌, ◌≤◌, ◌==◌, ◌&&◌, Bool, true, false, Option, Some, None, unwrap_or, List, [], ◌∷◌, length, set, get_or, if◌then◌else◌, is_some, drop}
-use Rattle.std.specs.Option.{option_or, option_map_or}
-use Rattle.std.proofs.Common.{refl, sym, ap, ◌∙◌, inl, inr, arith}
-use Rattle.std.proofs.lemmas.Bool.{cases_Bool, cases_eq}
+use Rattle.std.specs.Prelude.{◌≡◌, ℕ, ◌+◌, ◌-◌, ◌*◌, ◌<◌, ◌≤◌, ◌==◌, ◌&&◌, Bool, true, false, Option, Some, None, List, ◌∷◌, length, set, get_or, is_some, drop}
+use Rattle.std.specs.Option.{option_or}
+use Rattle.std.proofs.Common.{refl, sym, ◌∙◌, inl, inr, arith}
+use Rattle.std.proofs.lemmas.Bool.{cases_eq}
 use Rattle.std.proofs.lemmas.Bool.Decides.{nat_tests}
 use Rattle.std.proofs.lemmas.List.{get_or-set_same, get_or-set_other, drop_more}
 use Rattle.std.proofs.lemmas.Nat.{same_from_place}
-use Rattle.np_frac.specs.Ratio.{Ratio, zero_ratio}
+use Rattle.np_frac.specs.Ratio.{Ratio}
 use Rattle.net_csv.specs.declared.given.Given.{Given}
-use Rattle.net_csv.specs.Network.{covers, last_given, supply_from}
+use Rattle.net_csv.specs.Network.{covers, last_given}
 
 or-none : (o : Option Ratio) → option_or o None ≡ o
 or-none None = refl
