@@ -5,3 +5,4 @@ pub mod Grammar
 pub mod Tables
 pub mod Reading
 pub mod Supply
+pub mod Words

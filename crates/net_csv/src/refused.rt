@@ -1,5 +1,8 @@
 //! Why a text is refused.
 
+ghost use Rattle.std.specs.Prelude.{◌≡◌};
+ghost use Rattle.net_csv.specs.Words.{code_word};
+
 use np_frac::Memory;
 
 /// What is wrong with a record.
@@ -37,6 +40,33 @@ pub enum Code {
     NoEnd,
     /// A record stands behind `end`.
     AfterEnd,
+}
+
+impl Code {
+    /// The word of a fault, as it is printed: the name of its variant.
+    #[tactic(auto, unfolding(crate::specs::Words::code_word))]
+    pub fn word(self) -> &'static [u8]
+        ensures { result.now ≡ code_word self }
+    {
+        match self {
+            Code::Header => b"Header",
+            Code::Unknown => b"Unknown",
+            Code::FieldCount => b"FieldCount",
+            Code::BadName => b"BadName",
+            Code::Repeated => b"Repeated",
+            Code::NoSuchName => b"NoSuchName",
+            Code::BadNumber => b"BadNumber",
+            Code::BadPeriod => b"BadPeriod",
+            Code::SameEnds => b"SameEnds",
+            Code::BadGain => b"BadGain",
+            Code::BadBounds => b"BadBounds",
+            Code::NotConvex => b"NotConvex",
+            Code::PieceAfterInfinite => b"PieceAfterInfinite",
+            Code::TooMany => b"TooMany",
+            Code::NoEnd => b"NoEnd",
+            Code::AfterEnd => b"AfterEnd",
+        }
+    }
 }
 
 /// Why a text was not read.
