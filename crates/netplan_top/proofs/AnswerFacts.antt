@@ -10,9 +10,11 @@ use Rattle.cert_checker.specs.declared.answer.Checked.{Checked}
 use Rattle.cert_checker.specs.declared.answer.Checked.TheVariants as checked
 use Rattle.cert_checker.specs.declared.answer.CheckRefusal.{CheckRefusal}
 use Rattle.cert_checker.specs.declared.answer.CheckRefusal.TheVariants as refusal
-use Rattle.netplan_top.specs.Reads.{Reads}
+use Rattle.netplan_top.specs.Reads.{Reads, IsStopOf}
+use Rattle.netplan_top.specs.declared.stop.Stop.{Stop}
+use Rattle.netplan_top.specs.declared.stop.Stop.TheVariants as stop
 use Rattle.netplan_top.specs.Texts.{check_text, accepted_line}
-use Rattle.netplan_top.specs.Answers.{IsLater, IsAnswer, IsJudged, IsRefused, IsWholeInput, IsTooLong, Gives, GivesTooLong}
+use Rattle.netplan_top.specs.Answers.{IsFaulty, IsLater, IsStopped, IsAnswer, IsJudged, IsRefused, IsWholeInput, IsTooLong, Gives, GivesTooLong}
 use Rattle.netplan_top.specs.Endings.{IsPrinted, Streams, Ending}
 
 -- ---- what the checker answers
@@ -60,6 +62,21 @@ answer_judged input scheme plan status text reads judged = record {
   known = elim judged.known [ inl a ↦ inl a | inr b ↦ elim b [ inl a ↦ inr (inl a) | inr a ↦ inr (inr (inr a)) ] ];
 }
 
+answer_refused : (input : List ℕ) (status : ℕ) (text : List ℕ) → status ≡ 5 → IsFaulty input text ⊎ IsLater input text → IsAnswer input status text
+answer_refused input status text is why = record {
+  accepts = λ e. absurd (omega arith);
+  passes = λ e. absurd (omega arith);
+  refuses = λ _. why;
+  rejects = λ e. absurd (omega arith);
+  known = inr (inr (inl is));
+}
+
+-- what is said where the input was not read
+pub answer_stopped : (input : List ℕ) (why : Stop) (status : ℕ) (text : List ℕ) → IsStopOf why input → IsStopped why status text → IsAnswer input status text
+answer_stopped input (stop.Fault place code) status text read told = let is = told.0 in answer_refused input status text is (inl (record { place = place; code = code; fault = read; text_is = told.1 }))
+answer_stopped input stop.Outside status text read told = let is = told.0 in answer_refused input status text is (inr (record { untaken = read; text_is = told.1 }))
+answer_stopped input stop.Memory status text read told = absurd told
+
 -- ---- how a run ends
 
 pub ends_answered : (io : Streams) (status result : ℕ) (input text : List ℕ) → IsWholeInput io.left io.left' input → IsAnswer input status text
@@ -86,9 +103,13 @@ gives io status (Ending.cut is it) own claim e a b c d f = absurd (c (sym e ∙ 
 gives io status (Ending.unread is rose same) own claim e a b c d f = absurd (b (sym e ∙ is))
 gives io status (Ending.no_memory is same) own claim e a b c d f = absurd (d (sym e ∙ is))
 
-pub gives_refused : (io : Streams) (status : ℕ) → Ending io status → status ≡ 5 → Gives IsLater io.left io.left' io.written io.written' ⊎ GivesTooLong io.left io.left' io.written io.written'
-gives_refused io status (Ending.answered input text whole answer wrote) e = inl (record { input = input; text = text; whole = whole; says = answer.refuses e; wrote = wrote })
-gives_refused io status (Ending.too_long text is long wrote) e = inr (record { text = text; too_long = long; wrote = wrote })
+pub gives_refused : (io : Streams) (status : ℕ) → Ending io status → status ≡ 5
+    → Gives IsFaulty io.left io.left' io.written io.written' ⊎ Gives IsLater io.left io.left' io.written io.written' ⊎ GivesTooLong io.left io.left' io.written io.written'
+gives_refused io status (Ending.answered input text whole answer wrote) e = elim (answer.refuses e) [
+  | inl faulty ↦ inl (record { input = input; text = text; whole = whole; says = faulty; wrote = wrote })
+  | inr later ↦ inr (inl (record { input = input; text = text; whole = whole; says = later; wrote = wrote }))
+]
+gives_refused io status (Ending.too_long text is long wrote) e = inr (inr (record { text = text; too_long = long; wrote = wrote }))
 gives_refused io status (Ending.cut is it) e = absurd (omega arith)
 gives_refused io status (Ending.unread is rose same) e = absurd (omega arith)
 gives_refused io status (Ending.no_memory is same) e = absurd (omega arith)

@@ -8,12 +8,12 @@ use Rattle.std.proofs.lemmas.List.{append-nil}
 use Rattle.std.proofs.lemmas.List.Elements.{filter_map-append}
 use Rattle.std.proofs.lemmas.Slice.Eq.{bytes_eq-Decides}
 use Rattle.np_frac.specs.Ratio.{Ratio}
-use Rattle.np_frac.specs.Amount.{amount_of}
+use Rattle.np_frac.specs.Text.{fraction_of}
 use Rattle.np_records.specs.Names.{place_of}
 use Rattle.np_records.specs.Records.{field_of}
 use Rattle.netplan_top.specs.declared.claims.Draft.{Draft}
-use Rattle.netplan_top.specs.NetworkForm.{is_kind, given_at}
-use Rattle.netplan_top.specs.PlanForm.{IsCost, IsAmountFor, IsClaim, amount_in, cost_in, costs, flows_given, prices_given}
+use Rattle.net_csv.specs.Network.{is_kind}
+use Rattle.netplan_top.specs.PlanForm.{given_at, IsCost, IsAmountFor, IsClaim, amount_in, cost_in, costs, flows_given, prices_given}
 use Rattle.netplan_top.specs.ClaimsRead.{GivesAmount, HasClaims, table_of}
 use Rattle.netplan_top.proofs.ClaimsTables.{table-at, table-length, table-set}
 
@@ -32,17 +32,17 @@ module _ (nodes arcs : List (List ℕ)) (before : List (List (List ℕ))) (r : L
   Takes taken new = MatchBool taken (IsClaim nodes arcs before r × HasClaims nodes arcs (before ++ r ∷ []) new) (¬ (IsClaim nodes arcs before r))
 
   pub takes-cost : (taken : Bool) (new : Draft) → is_kind r (codes "cost") ≡ true → HasClaims nodes arcs before draft
-      → MatchBool taken (IsCost (costs before) r × (new ≡ record draft { cost = Some (amount_of (field_of r 1)) })) (¬ (IsCost (costs before) r))
+      → MatchBool taken (IsCost (costs before) r × (new ≡ record draft { cost = Some (fraction_of (field_of r 1)) })) (¬ (IsCost (costs before) r))
       → Takes taken new
   takes-cost true new kind has step =
       let word = kind-is r (codes "cost") kind in
       let claim : IsClaim nodes arcs before r = rw kind step.0 in
-      let cost : cost_in r ≡ Some (amount_of (field_of r 1)) = rw kind refl in
+      let cost : cost_in r ≡ Some (fraction_of (field_of r 1)) = rw kind refl in
       let flow : amount_in (codes "flow") arcs r ≡ None = rw word refl in
       let price : amount_in (codes "price") nodes r ≡ None = rw word refl in (
         claim,
         rw step.1 (record {
-          cost = given-more cost_in before r (amount_of (field_of r 1)) cost ∙ rw step.0.only refl;
+          cost = given-more cost_in before r (fraction_of (field_of r 1)) cost ∙ rw step.0.only refl;
           flows = has.flows ∙ ap (table_of arcs) (sym (given-same (amount_in (codes "flow") arcs) before r flow));
           prices = has.prices ∙ ap (table_of nodes) (sym (given-same (amount_in (codes "price") nodes) before r price));
         }),
@@ -53,19 +53,19 @@ module _ (nodes arcs : List (List ℕ)) (before : List (List (List ℕ))) (r : L
       → new.cost ≡ draft.cost → new.prices ≡ draft.prices
       → MatchBool taken
       (IsAmountFor arcs (flows_given arcs before) r × (place : ℕ) × (place_of arcs (field_of r 1) ≡ Some place)
-      × (new.flows.items ≡ table_of arcs (flows_given arcs before ++ (place, amount_of (field_of r 3)) ∷ [])))
+      × (new.flows.items ≡ table_of arcs (flows_given arcs before ++ (place, fraction_of (field_of r 3)) ∷ [])))
       (¬ (IsAmountFor arcs (flows_given arcs before) r))
       → Takes taken new
   takes-flow true new kind has cost_same prices_same step =
       let word = kind-is r (codes "flow") kind in
       let claim : IsClaim nodes arcs before r = rw word step.0 in
       let cost : cost_in r ≡ None = rw word refl in
-      let flow : amount_in (codes "flow") arcs r ≡ Some (step.1, amount_of (field_of r 3)) = rw (kind, step.2) refl in
+      let flow : amount_in (codes "flow") arcs r ≡ Some (step.1, fraction_of (field_of r 3)) = rw (kind, step.2) refl in
       let price : amount_in (codes "price") nodes r ≡ None = rw word refl in (
         claim,
         record {
           cost = given-same cost_in before r cost ∙ has.cost ∙ ap option_to_list (sym cost_same);
-          flows = step.3 ∙ ap (table_of arcs) (sym (given-more (amount_in (codes "flow") arcs) before r (step.1, amount_of (field_of r 3)) flow));
+          flows = step.3 ∙ ap (table_of arcs) (sym (given-more (amount_in (codes "flow") arcs) before r (step.1, fraction_of (field_of r 3)) flow));
           prices = rw prices_same (has.prices ∙ ap (table_of nodes) (sym (given-same (amount_in (codes "price") nodes) before r price)));
         },
       )
@@ -75,7 +75,7 @@ module _ (nodes arcs : List (List ℕ)) (before : List (List (List ℕ))) (r : L
       → new.cost ≡ draft.cost → new.flows ≡ draft.flows
       → MatchBool taken
       (IsAmountFor nodes (prices_given nodes before) r × (place : ℕ) × (place_of nodes (field_of r 1) ≡ Some place)
-      × (new.prices.items ≡ table_of nodes (prices_given nodes before ++ (place, amount_of (field_of r 3)) ∷ [])))
+      × (new.prices.items ≡ table_of nodes (prices_given nodes before ++ (place, fraction_of (field_of r 3)) ∷ [])))
       (¬ (IsAmountFor nodes (prices_given nodes before) r))
       → Takes taken new
   takes-price true new kind has cost_same flows_same step =
@@ -83,12 +83,12 @@ module _ (nodes arcs : List (List ℕ)) (before : List (List (List ℕ))) (r : L
       let claim : IsClaim nodes arcs before r = rw word step.0 in
       let cost : cost_in r ≡ None = rw word refl in
       let flow : amount_in (codes "flow") arcs r ≡ None = rw word refl in
-      let price : amount_in (codes "price") nodes r ≡ Some (step.1, amount_of (field_of r 3)) = rw (kind, step.2) refl in (
+      let price : amount_in (codes "price") nodes r ≡ Some (step.1, fraction_of (field_of r 3)) = rw (kind, step.2) refl in (
         claim,
         record {
           cost = given-same cost_in before r cost ∙ has.cost ∙ ap option_to_list (sym cost_same);
           flows = rw flows_same (has.flows ∙ ap (table_of arcs) (sym (given-same (amount_in (codes "flow") arcs) before r flow)));
-          prices = step.3 ∙ ap (table_of nodes) (sym (given-more (amount_in (codes "price") nodes) before r (step.1, amount_of (field_of r 3)) price));
+          prices = step.3 ∙ ap (table_of nodes) (sym (given-more (amount_in (codes "price") nodes) before r (step.1, fraction_of (field_of r 3)) price));
         },
       )
   takes-price false new kind has cost_same flows_same step = λ claim. step (rw (kind-is r (codes "price") kind) at claim)
@@ -103,7 +103,7 @@ pub gives : (names : List (List ℕ)) (given : List (ℕ × Ratio)) (r : List (L
     → table ≡ table_of names given → GivesAmount names r place amount → place < length names
     → MatchBool put ((slice_get table place ≡ Some None) × (new ≡ set table place (Some amount))) (slice_get table place ≢ Some None)
     → MatchBool put
-    (IsAmountFor names given r × (x : ℕ) × (place_of names (field_of r 1) ≡ Some x) × (new ≡ table_of names (given ++ (x, amount_of (field_of r 3)) ∷ [])))
+    (IsAmountFor names given r × (x : ℕ) × (place_of names (field_of r 1) ≡ Some x) × (new ≡ table_of names (given ++ (x, fraction_of (field_of r 3)) ∷ [])))
     (¬ (IsAmountFor names given r))
 gives names given r table new place amount put is has within step =
     let long : place < length table = rw (is, table-length names given) within in
@@ -114,7 +114,7 @@ gives names given r table new place amount put is has within step =
         → MatchBool put ((slice_get table place ≡ Some None) × (new ≡ set table place (Some amount))) (slice_get table place ≢ Some None)
         → slice_get table place ≡ Some (given_at given place)
         → MatchBool put
-        (IsAmountFor names given r × (x : ℕ) × (place_of names (field_of r 1) ≡ Some x) × (new ≡ table_of names (given ++ (x, amount_of (field_of r 3)) ∷ [])))
+        (IsAmountFor names given r × (x : ℕ) × (place_of names (field_of r 1) ≡ Some x) × (new ≡ table_of names (given ++ (x, fraction_of (field_of r 3)) ∷ [])))
         (¬ (IsAmountFor names given r))
     cases true step here =
         let only : given_at given place ≡ None = cc (step.0, here) in (
@@ -122,7 +122,7 @@ gives names given r table new place amount put is has within step =
             fields = has.fields;
             name = rw has.found refl;
             period = has.period;
-            amount = has.whole;
+            amount = has.fraction;
             only = rw has.found only;
           },
           place,
@@ -141,7 +141,7 @@ has-place (Some place) P e h = (place, refl)
 pub gives-none : (names : List (List ℕ)) (given : List (ℕ × Ratio)) (r : List (List ℕ)) → ((place : ℕ) (amount : Ratio) → ¬ (GivesAmount names r place amount)) → ¬ (IsAmountFor names given r)
 gives-none names given r wrong = λ claim.
     let at = has-place (place_of names (field_of r 1)) (λ (place : ℕ). given_at given place ≡ None) claim.name claim.only in
-    wrong at.0 (amount_of (field_of r 3)) (record { fields = claim.fields; found = at.1; period = claim.period; whole = claim.amount; value = refl })
+    wrong at.0 (fraction_of (field_of r 3)) (record { fields = claim.fields; found = at.1; period = claim.period; fraction = claim.amount; value = refl })
 
 -- a record of two fields
 pub pair-of : (r : List (List ℕ)) (a b : List ℕ) (test : Bool) → length r ≡ 2 → field_of r 0 ≡ a → test ≡ bytes_eq (field_of r 1) b

@@ -6,8 +6,7 @@ use Rattle.std.proofs.lemmas.Bool.{cases_Bool, eqb-true, eq-eqb}
 use Rattle.std.proofs.lemmas.List.{length-set, length-replicate, get_or-replicate, get_or-set_same, get_or-set_other}
 use Rattle.std.proofs.lemmas.List.FromFn.{fill_by_all, get_or-map-range_with_len, length-map-range_with_len}
 use Rattle.np_frac.specs.Ratio.{Ratio, zero_ratio}
-use Rattle.netplan_top.specs.NetworkForm.{given_at}
-use Rattle.netplan_top.specs.PlanForm.{amounts_of}
+use Rattle.netplan_top.specs.PlanForm.{given_at, amounts_of}
 use Rattle.netplan_top.specs.ClaimsRead.{table_of}
 
 -- what is given last counts

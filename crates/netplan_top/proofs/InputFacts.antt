@@ -1,23 +1,68 @@
 -- From the two texts of an input to the whole.
-use Rattle.std.specs.Prelude.{◌≡◌, ℕ, true, false, Bool, Some, None, List, [], ◌∷◌, length, codes, if◌then◌else◌}
-use Rattle.std.specs.List.{filter_map, cons_option}
-use Rattle.std.proofs.Common.{refl, sym, ap, subst, ◌∙◌, arith}
+use Rattle.std.specs.Prelude.{◌≡◌, ◌≢◌, ℕ, ◌+◌, ◌*◌, ◌==◌, ◌&&◌, not, true, false, Bool, Ok, Err, List, [], ◌∷◌, length, drop, map}
+use Rattle.std.specs.List.{All, list_all}
+use Rattle.std.proofs.Common.{refl, sym, ap, subst, ◌∙◌, inl, inr, arith}
+use Rattle.std.proofs.lemmas.Bool.{cases_Bool}
+use Rattle.std.proofs.lemmas.Bool.Decides.{nat_tests}
+use Rattle.std.proofs.lemmas.List.{length-map, drop-drop}
+use Rattle.std.proofs.lemmas.List.Elements.{All-nil, All-cons, All-head, All-tail}
 use Rattle.std.proofs.lemmas.List.FromFn.{length-map-range_with_len}
 use Rattle.np_records.specs.Records.{records_of}
+use Rattle.np_model.specs.declared.scheme.Flow.{Flow}
 use Rattle.np_model.specs.declared.scheme.Scheme.{Scheme}
 use Rattle.np_model.specs.declared.plan.Verdict.{Verdict}
 use Rattle.np_model.specs.declared.plan.Plan.{Plan}
-use Rattle.np_model.specs.Schemes.{staged}
+use Rattle.np_model.specs.Schemes.{staged, is_hold}
 use Rattle.np_model.specs.Fits.{FitsAs, PlanFits, LogFits}
 use Rattle.np_model.specs.declared.plan.Log.{Log}
-use Rattle.cert_checker.specs.Plain.{IsPlain}
-use Rattle.netplan_top.specs.Split.{body_of, rest_of}
-use Rattle.netplan_top.specs.NetworkForm.{IsNetwork, IsSchemeOf, node_names, arc_names, flow_in, supply_of, is_kind}
+use Rattle.cert_checker.specs.Plain.{IsPlain, IsPlainFlow}
+use Rattle.net_csv.specs.Reading.{ReadsScheme}
+use Rattle.net_csv.specs.declared.refused.Refused.{Refused}
+use Rattle.net_csv.specs.declared.refused.Refused.TheVariants as refused
+use Rattle.net_csv.specs.declared.refused.Tail.TheVariants as tail
 use Rattle.netplan_top.specs.PlanForm.{IsPlanText, IsPlanOf}
-use Rattle.netplan_top.specs.Reads.{IsInForm, Reads, StopsFor}
-use Rattle.netplan_top.specs.InputRead.{IsInputRead}
+use Rattle.netplan_top.specs.Reads.{HasNetwork, Reads, IsStopOf, StopsFor, flow_names}
+use Rattle.netplan_top.specs.InputRead.{IsInputRead, IsPlanBehind, is_plain_flow}
+use Rattle.netplan_top.specs.Stops.{stop_of}
 use Rattle.netplan_top.specs.declared.stop.Stop.{Stop}
 use Rattle.netplan_top.specs.declared.stop.Stop.TheVariants as stop
+
+-- ---- plain schemes
+
+and-both : (a b : Bool) → (a && b) ≡ true → (a ≡ true) × (b ≡ true)
+and-both true b h = (refl, h)
+and-both false b h = absurd (cc h)
+
+empty-from : {X : Type 0} (xs : List X) → (length xs == 0) ≡ true → xs ≡ []
+empty-from [] h = refl
+empty-from (x ∷ xs) h = absurd (let e : length (x ∷ xs) ≡ 0 = grind (arith, nat_tests) in omega arith)
+
+not-true : (b : Bool) → not b ≡ true → b ≡ false
+not-true true h = absurd (cc h)
+not-true false h = refl
+
+pub plain-flow : (f : Flow) → is_plain_flow f ≡ true → IsPlainFlow f
+plain-flow f h =
+    let both = and-both (not (is_hold f.kind)) (length f.bands == 0) h in
+    record { no_hold = not-true (is_hold f.kind) both.0; no_band = empty-from f.bands both.1 }
+
+pub is-plain-flow : (f : Flow) → IsPlainFlow f → is_plain_flow f ≡ true
+is-plain-flow f h = rw (h.no_hold, h.no_band) refl
+
+pub plain-flows : (fs : List Flow) → list_all is_plain_flow fs ≡ true → All IsPlainFlow fs
+plain-flows [] h = All-nil IsPlainFlow
+plain-flows (f ∷ fs) h =
+    let both = and-both (is_plain_flow f) (list_all is_plain_flow fs) h in
+    All-cons IsPlainFlow f fs (plain-flow f both.0) (plain-flows fs both.1)
+
+are-plain : (fs : List Flow) → All IsPlainFlow fs → list_all is_plain_flow fs ≡ true
+are-plain [] h = refl
+are-plain (f ∷ fs) h = rw (is-plain-flow f (All-head IsPlainFlow f fs h), are-plain fs (All-tail IsPlainFlow f fs h)) refl
+
+pub not-plain : (s : Scheme) → list_all is_plain_flow s.flows ≡ false → ¬ (IsPlain s)
+not-plain s f = λ h. cc (f, are-plain s.flows h.flows)
+
+-- ---- the plan fits
 
 -- a log without pivots fits
 empty_log : (log : Log) → log.turned ≡ None → log.entries ≡ [] → LogFits log
@@ -28,49 +73,55 @@ empty_log log turned entries = record {
   at_bounds = rw entries (λ k d h. absurd (omega arith));
 }
 
--- each arc record gives one flow and one name
-one_each : {A B : Type 0} (b : Bool) (x : A) (y : B) (xs : List A) (ys : List B) → length xs ≡ length ys → length (cons_option (if b then Some x else None) xs) ≡ length (cons_option (if b then Some y else None) ys)
-one_each true x y xs ys e = omega arith
-one_each false x y xs ys e = e
+-- the plan has an amount for each staged arc and a price for each node
+plan_fits : (scheme : Scheme) (plan : Plan) (claims : List (List (List ℕ))) → IsPlain scheme → IsPlanOf scheme.nodes (flow_names scheme.flows) claims plan
+    → ((s : Scheme) → IsPlain s → length (staged s) ≡ length s.flows) → PlanFits scheme plan
+plan_fits scheme plan claims plain gives law =
+    let flows : length plan.flows ≡ length (flow_names scheme.flows) = ap length gives.flows ∙ length-map-range_with_len _ 0 (length (flow_names scheme.flows)) in
+    let prices : length plan.prices ≡ length scheme.nodes = ap length gives.prices ∙ length-map-range_with_len _ 0 (length scheme.nodes) in
+    let one = plain.one_period in
+    let supplies : length scheme.supply ≡ length scheme.nodes = scheme.valid.one_each ∙ rw one (omega arith) in
+    let arcs : length (staged scheme) ≡ length (flow_names scheme.flows) = law scheme plain ∙ sym (length-map scheme.flows (λ (f : Flow). f.name)) in
+    subst (λ (v : Verdict). FitsAs v scheme plan) (sym gives.verdict) (record { amount = gives.priced; flows = flows ∙ sym arcs; prices = prices ∙ sym supplies; log = empty_log plan.log gives.turned gives.entries })
 
-length-flows : (nodes : List (List ℕ)) (rows : List (List (List ℕ))) → length (filter_map (flow_in nodes) rows) ≡ length (arc_names rows)
-length-flows nodes [] = refl
-length-flows nodes (r ∷ rows) = one_each (is_kind r (codes "arc")) _ _ (filter_map (flow_in nodes) rows) (arc_names rows) (length-flows nodes rows)
+-- ---- the whole input
 
-module _ (rows claims : List (List (List ℕ))) (scheme : Scheme) (plan : Plan) where
-  -- the plan has an amount for each staged arc and a price for each node
-  pub plan_fits : IsSchemeOf rows scheme → IsPlain scheme → IsPlanOf (node_names rows) (arc_names rows) claims plan → ((s : Scheme) → IsPlain s → length (staged s) ≡ length s.flows) → PlanFits scheme plan
-  plan_fits is plain gives law =
-      let flows : length plan.flows ≡ length (arc_names rows) = ap length gives.flows ∙ length-map-range_with_len _ 0 (length (arc_names rows)) in
-      let prices : length plan.prices ≡ length (node_names rows) = ap length gives.prices ∙ length-map-range_with_len _ 0 (length (node_names rows)) in
-      let supplies : length scheme.supply ≡ length (node_names rows) = ap length is.supply ∙ length-map-range_with_len (supply_of rows) 0 (length (node_names rows)) in
-      let arcs : length (staged scheme) ≡ length (arc_names rows) = law scheme plain ∙ ap length is.flows ∙ length-flows (node_names rows) rows in
-      subst (λ (v : Verdict). FitsAs v scheme plan) (sym gives.verdict) (record { amount = gives.priced; flows = flows ∙ sym arcs; prices = prices ∙ sym supplies; log = empty_log plan.log gives.turned gives.entries })
+pub has-network : (bytes : List ℕ) (scheme : Scheme) (count : ℕ) → ReadsScheme tail.Plan (records_of bytes) (Ok (scheme, count)) → HasNetwork bytes scheme (drop count (records_of bytes))
+has-network bytes scheme count h = record { count = count; network = h.0; scheme_is = h.1; rest_is = refl }
 
--- what the records of an input give
-record IsRead (rows : List (List (List ℕ))) (scheme : Scheme) (plan : Plan) : Type 0 where
-  network : IsNetwork rows
-  text : IsPlanText (node_names (body_of rows)) (arc_names (body_of rows)) (rest_of rows)
-  scheme_is : IsSchemeOf (body_of rows) scheme
-  plan_is : IsPlanOf (node_names (body_of rows)) (arc_names (body_of rows)) (body_of (rest_of rows)) plan
-
--- the tables and what is left, as the records of the input give them
-pub whole_input : (bytes : List ℕ) (rows left : List (List (List ℕ))) (nodes arcs : List (List ℕ)) (scheme : Scheme) (plan : Plan) → rows ≡ records_of bytes → IsNetwork rows → IsSchemeOf (body_of rows) scheme → IsPlain scheme
-    → nodes ≡ node_names (body_of rows) → arcs ≡ arc_names (body_of rows) → left ≡ rest_of rows → IsPlanText nodes arcs left → IsPlanOf nodes arcs (body_of left) plan
+pub whole-input : (bytes : List ℕ) (scheme : Scheme) (count : ℕ) (plan : Plan) → ReadsScheme tail.Plan (records_of bytes) (Ok (scheme, count)) → IsPlain scheme → IsPlanBehind bytes scheme count plan
     → ((s : Scheme) → IsPlain s → length (staged s) ≡ length s.flows) → IsInputRead bytes scheme plan
-whole_input bytes rows left nodes arcs scheme plan rows_are form is plain nodes_are arcs_are left_is text gives law =
-    let text' = rw (nodes_are, arcs_are, left_is) at text in
-    let gives' = rw (nodes_are, arcs_are, left_is) at gives in
-    let reads = subst (λ (z : List (List (List ℕ))). IsRead z scheme plan) rows_are (record { network = form; text = text'; scheme_is = is; plan_is = gives' }) in
-    let reads : Reads bytes scheme plan = record { form = record { network = reads.network; plan = reads.text }; scheme_is = reads.scheme_is; plan_is = reads.plan_is } in
-    record { reads = reads; plain = plain; fits = plan_fits (body_of rows) (body_of (rest_of rows)) scheme plan is plain gives' law }
+whole-input bytes scheme count plan h plain behind law = record {
+  reads = record {
+    rest = drop count (records_of bytes);
+    network = has-network bytes scheme count h;
+    taken = record { plain = plain; plan = behind.text };
+    plan_is = behind.plan_is;
+  };
+  plain = plain;
+  fits = plan_fits scheme plan _ plain behind.plan_is law;
+}
 
--- why the input is outside the form
-pub no_network : (bytes : List ℕ) (rows : List (List (List ℕ))) (why : Stop) → rows ≡ records_of bytes → StopsFor why (¬ (IsNetwork rows)) → StopsFor why (¬ (IsInForm bytes))
-no_network bytes rows stop.Memory rows_are h = tt
-no_network bytes rows stop.Outside rows_are h = λ form. h (rw rows_are form.network)
+-- why the input was not read
 
-pub no_plan : (bytes : List ℕ) (rows left : List (List (List ℕ))) (nodes arcs : List (List ℕ)) (why : Stop) → rows ≡ records_of bytes → nodes ≡ node_names (body_of rows) → arcs ≡ arc_names (body_of rows) → left ≡ rest_of rows
-    → StopsFor why (¬ (IsPlanText nodes arcs left)) → StopsFor why (¬ (IsInForm bytes))
-no_plan bytes rows left nodes arcs stop.Memory rows_are nodes_are arcs_are left_is h = tt
-no_plan bytes rows left nodes arcs stop.Outside rows_are nodes_are arcs_are left_is h = λ form. h (rw (nodes_are, arcs_are, left_is, rows_are) form.plan)
+pub stop-network : (bytes : List ℕ) (why : Refused) → ReadsScheme tail.Plan (records_of bytes) (Err why) → IsStopOf (stop_of why) bytes
+stop-network bytes (refused.Fault place code) h = h
+stop-network bytes refused.Memory h = tt
+
+pub stop-scheme : (bytes : List ℕ) (scheme : Scheme) (count : ℕ) → ReadsScheme tail.Plan (records_of bytes) (Ok (scheme, count)) → ¬ (IsPlain scheme) → IsStopOf stop.Outside bytes
+stop-scheme bytes scheme count h no = record { scheme = scheme; rest = drop count (records_of bytes); network = has-network bytes scheme count h; outside = λ taken. no taken.plain }
+
+pub stop-plan : (bytes : List ℕ) (scheme : Scheme) (count : ℕ) (why : Stop) → ReadsScheme tail.Plan (records_of bytes) (Ok (scheme, count))
+    → StopsFor why (¬ (IsPlanText scheme.nodes (flow_names scheme.flows) (drop count (records_of bytes)))) → IsStopOf why bytes
+stop-plan bytes scheme count (stop.Fault place code) h no = absurd no
+stop-plan bytes scheme count stop.Outside h no =
+    record { scheme = scheme; rest = drop count (records_of bytes); network = has-network bytes scheme count h; outside = λ taken. no taken.plan }
+stop-plan bytes scheme count stop.Memory h no = tt
+
+-- ---- records that are passed over
+
+pub drop-next : {X : Type 0} (xs after : List X) (x : X) (k : ℕ) → drop k xs ≡ x ∷ after → drop (k + 1) xs ≡ after
+drop-next xs after x k e = sym (drop-drop 1 k xs) ∙ ap (drop 1) e
+
+pub drop-none : {X : Type 0} (xs : List X) (k : ℕ) → drop k xs ≡ [] → drop (k + 1) xs ≡ []
+drop-none xs k e = sym (drop-drop 1 k xs) ∙ ap (drop 1) e

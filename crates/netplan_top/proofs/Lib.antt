@@ -1,12 +1,8 @@
 pub mod AnswerFacts
-pub mod NetworkPlaces
-pub mod NetworkRows
-pub mod NetworkSteps
-pub mod NetworkValid
-pub mod NetworkBody
 pub mod ClaimsTables
 pub mod ClaimsText
 pub mod ClaimsDraft
+pub mod NameTables
 pub mod InputFacts
 pub mod OneReading
 pub mod OneAnswer

@@ -1,6 +1,8 @@
 -- What is said of an input is one status and one text.
-use Rattle.std.proofs.Common.{◌≡◌, ℕ, List, sym, ap, ◌∙◌, ◌⊎◌, inl, inr}
+use Rattle.std.proofs.Common.{◌≡◌, ℕ, List, sym, subst, ap, ◌∙◌, ◌⊎◌, inl, inr}
 use Rattle.std.specs.Prelude.{[], codes, Ok, Err, Result}
+use Rattle.net_csv.specs.Words.{code_word}
+use Rattle.net_csv.specs.declared.refused.Code.{Code}
 use Rattle.np_model.specs.declared.scheme.Scheme.{Scheme}
 use Rattle.np_model.specs.declared.plan.Plan.{Plan}
 use Rattle.cert_checker.specs.Walk.{walk}
@@ -8,10 +10,10 @@ use Rattle.cert_checker.specs.declared.answer.Checked.{Checked}
 use Rattle.cert_checker.specs.declared.answer.Checked.TheVariants as checked
 use Rattle.cert_checker.specs.declared.answer.CheckRefusal.{CheckRefusal}
 use Rattle.cert_checker.specs.declared.answer.CheckRefusal.TheVariants as refusal
-use Rattle.netplan_top.specs.Reads.{Reads, IsInForm}
+use Rattle.netplan_top.specs.Reads.{Reads, IsFault, IsTaken, IsUntaken}
 use Rattle.netplan_top.specs.Answers.{Accepts, Rejects, Passes, IsAnswer}
 use Rattle.netplan_top.specs.Texts.{refused_text, check_text, accepted_line, rejected_line, past_line}
-use Rattle.netplan_top.proofs.OneReading.{scheme_is, plan_is}
+use Rattle.netplan_top.proofs.OneReading.{OneScheme, scheme_is, plan_is, rest_is}
 
 abbrev said : ℕ → List ℕ → ℕ × List ℕ
 said status text = (status, text)
@@ -35,10 +37,17 @@ passes_told : (s : Scheme) (p : Plan) (x : List ℕ) → Passes s p x → said 4
 unfolding told
 passes_told s p x h = ap (said 4) h.text_is ∙ sym (ap (told s) h.walked)
 
--- an input is outside the form, or it reads as a scheme and a plan of whose walk this is told
-record IsOutside (input : List ℕ) (status : ℕ) (text : List ℕ) : Type 0 where
-  pub outside : ¬ (IsInForm input)
-  pub answer : said status text ≡ said 5 (refused_text (codes "Later"))
+-- ---- what stands behind an answer, and that each of these leaves no room for another
+
+record IsFaultTold (input : List ℕ) (status : ℕ) (text : List ℕ) : Type 0 where
+  pub place : ℕ
+  pub code : Code
+  pub fault : IsFault input place code
+  pub answer : said status text ≡ said 5 (refused_text place (code_word code))
+
+record IsLaterTold (input : List ℕ) (status : ℕ) (text : List ℕ) : Type 0 where
+  pub untaken : IsUntaken input
+  pub answer : said status text ≡ said 5 (refused_text 0 (codes "Later"))
 
 record IsTold (input : List ℕ) (status : ℕ) (text : List ℕ) : Type 0 where
   pub scheme : Scheme
@@ -46,44 +55,70 @@ record IsTold (input : List ℕ) (status : ℕ) (text : List ℕ) : Type 0 where
   pub reads : Reads input scheme plan
   pub answer : said status text ≡ told scheme (walk scheme plan)
 
-by_form : (input : List ℕ) (status : ℕ) (text : List ℕ) → IsAnswer input status text → IsOutside input status text ⊎ IsTold input status text
-by_form input status text a =
+data Cause (input : List ℕ) (status : ℕ) (text : List ℕ) : Type 0 where
+  fault : IsFaultTold input status text → Cause input status text
+  later : IsLaterTold input status text → Cause input status text
+  walked : IsTold input status text → Cause input status text
+
+cause_of : (input : List ℕ) (status : ℕ) (text : List ℕ) → IsAnswer input status text → Cause input status text
+cause_of input status text a =
     elim a.known [
       | inl e ↦ let h = a.accepts e in
-          inr (record { scheme = h.scheme; plan = h.plan; reads = h.reads; answer = ap (λ n. said n text) e ∙ accepts_told _ _ _ h.says })
+          Cause.walked (record { scheme = h.scheme; plan = h.plan; reads = h.reads; answer = ap (λ n. said n text) e ∙ accepts_told _ _ _ h.says })
       | inr rest ↦ elim rest [
         | inl e ↦ let h = a.passes e in
-            inr (record { scheme = h.scheme; plan = h.plan; reads = h.reads; answer = ap (λ n. said n text) e ∙ passes_told _ _ _ h.says })
+            Cause.walked (record { scheme = h.scheme; plan = h.plan; reads = h.reads; answer = ap (λ n. said n text) e ∙ passes_told _ _ _ h.says })
         | inr more ↦ elim more [
-          | inl e ↦ let h = a.refuses e in
-              inl (record { outside = h.outside; answer = ap (λ n. said n text) e ∙ ap (said 5) h.text_is })
+          | inl e ↦ elim (a.refuses e) [
+            | inl h ↦ Cause.fault (record { place = h.place; code = h.code; fault = h.fault; answer = ap (λ n. said n text) e ∙ ap (said 5) h.text_is })
+            | inr h ↦ Cause.later (record { untaken = h.untaken; answer = ap (λ n. said n text) e ∙ ap (said 5) h.text_is })
+          ]
           | inr e ↦ let h = a.rejects e in
-              inr (record { scheme = h.scheme; plan = h.plan; reads = h.reads; answer = ap (λ n. said n text) e ∙ rejects_told _ _ _ h.says })
+              Cause.walked (record { scheme = h.scheme; plan = h.plan; reads = h.reads; answer = ap (λ n. said n text) e ∙ rejects_told _ _ _ h.says })
         ]
       ]
     ]
 
-both_told : (input : List ℕ) (s t : ℕ) (x y : List ℕ) → IsTold input s x → IsTold input t y → said s x ≡ said t y
-both_told input s t x y a b =
-    let e : a.scheme ≡ b.scheme = scheme_is input a.scheme b.scheme a.plan b.plan a.reads b.reads in
-    let f : a.plan ≡ b.plan = plan_is input a.scheme b.scheme a.plan b.plan a.reads b.reads in
+-- what the grammar tells of an input
+fault_of : Result ℕ (ℕ × Code) → List ℕ
+fault_of (Ok count) = []
+fault_of (Err (place, code)) = refused_text place (code_word code)
+
+both_faults : (input : List ℕ) (s t : ℕ) (x y : List ℕ) → IsFaultTold input s x → IsFaultTold input t y → said s x ≡ said t y
+unfolding fault_of
+both_faults input s t x y a b = a.answer ∙ ap (said 5) (sym (ap fault_of a.fault) ∙ ap fault_of b.fault) ∙ sym b.answer
+
+no_fault : (x : Result ℕ (ℕ × Code)) (count place : ℕ) (code : Code) → x ≡ Ok count → x ≡ Err (place, code) → ⊥
+no_fault x count place code a b = cc
+
+taken_is : OneScheme → (input : List ℕ) (u : IsUntaken input) (s : Scheme) (p : Plan) → Reads input s p → ⊥
+taken_is law input u s p r =
+    let e : s ≡ u.scheme = law _ s u.scheme r.network.scheme_is u.network.scheme_is in
+    let f : r.rest ≡ u.rest = rest_is input s u.scheme r.rest u.rest r.network u.network in
+    u.outside (subst (λ (z : Scheme). IsTaken z u.rest) e (subst (λ (rows : List (List (List ℕ))). IsTaken s rows) f r.taken))
+
+both_told : OneScheme → (input : List ℕ) (s t : ℕ) (x y : List ℕ) → IsTold input s x → IsTold input t y → said s x ≡ said t y
+both_told law input s t x y a b =
+    let e : a.scheme ≡ b.scheme = scheme_is law input a.scheme b.scheme a.plan b.plan a.reads b.reads in
+    let f : a.plan ≡ b.plan = plan_is law input a.scheme b.scheme a.plan b.plan a.reads b.reads in
     a.answer ∙ (λ i. told (e i) (walk (e i) (f i))) ∙ sym b.answer
 
-same_pair : (input : List ℕ) (s t : ℕ) (x y : List ℕ) → IsAnswer input s x → IsAnswer input t y → said s x ≡ said t y
-same_pair input s t x y a b =
-    elim (by_form input s x a) [
-      | inl out ↦ elim (by_form input t y b) [
-        | inl out' ↦ out.answer ∙ sym out'.answer
-        | inr told' ↦ absurd (out.outside told'.reads.form)
-      ]
-      | inr is_told ↦ elim (by_form input t y b) [
-        | inl out' ↦ absurd (out'.outside is_told.reads.form)
-        | inr told' ↦ both_told input s t x y is_told told'
-      ]
-    ]
+same_cause : OneScheme → (input : List ℕ) (s t : ℕ) (x y : List ℕ) → Cause input s x → Cause input t y → said s x ≡ said t y
+same_cause law input s t x y (Cause.fault a) (Cause.fault b) = both_faults input s t x y a b
+same_cause law input s t x y (Cause.fault a) (Cause.later b) = absurd (no_fault _ _ _ _ b.untaken.network.network a.fault)
+same_cause law input s t x y (Cause.fault a) (Cause.walked b) = absurd (no_fault _ _ _ _ b.reads.network.network a.fault)
+same_cause law input s t x y (Cause.later a) (Cause.fault b) = absurd (no_fault _ _ _ _ a.untaken.network.network b.fault)
+same_cause law input s t x y (Cause.later a) (Cause.later b) = a.answer ∙ sym b.answer
+same_cause law input s t x y (Cause.later a) (Cause.walked b) = absurd (taken_is law input a.untaken b.scheme b.plan b.reads)
+same_cause law input s t x y (Cause.walked a) (Cause.fault b) = absurd (no_fault _ _ _ _ a.reads.network.network b.fault)
+same_cause law input s t x y (Cause.walked a) (Cause.later b) = absurd (taken_is law input b.untaken a.scheme a.plan a.reads)
+same_cause law input s t x y (Cause.walked a) (Cause.walked b) = both_told law input s t x y a b
 
-pub status_is : (input : List ℕ) (s t : ℕ) (x y : List ℕ) → IsAnswer input s x → IsAnswer input t y → s ≡ t
-status_is input s t x y a b = ap (λ p. p.0) (same_pair input s t x y a b)
+same_pair : OneScheme → (input : List ℕ) (s t : ℕ) (x y : List ℕ) → IsAnswer input s x → IsAnswer input t y → said s x ≡ said t y
+same_pair law input s t x y a b = same_cause law input s t x y (cause_of input s x a) (cause_of input t y b)
 
-pub text_is : (input : List ℕ) (s t : ℕ) (x y : List ℕ) → IsAnswer input s x → IsAnswer input t y → x ≡ y
-text_is input s t x y a b = ap (λ p. p.1) (same_pair input s t x y a b)
+pub status_is : OneScheme → (input : List ℕ) (s t : ℕ) (x y : List ℕ) → IsAnswer input s x → IsAnswer input t y → s ≡ t
+status_is law input s t x y a b = ap (λ p. p.0) (same_pair law input s t x y a b)
+
+pub text_is : OneScheme → (input : List ℕ) (s t : ℕ) (x y : List ℕ) → IsAnswer input s x → IsAnswer input t y → x ≡ y
+text_is law input s t x y a b = ap (λ p. p.1) (same_pair law input s t x y a b)

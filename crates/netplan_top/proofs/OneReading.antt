@@ -1,42 +1,16 @@
 -- An input stands for at most one scheme and one plan.
 use Rattle.std.proofs.Common.{◌≡◌, ℕ, List, sym, subst, ap, ◌∙◌}
-use Rattle.std.specs.Prelude.{Option, Some, None, IsSome, IfSome, [], ◌∷◌}
+use Rattle.std.specs.Prelude.{Option, Some, None, IsSome, IfSome, Result, Ok, [], ◌∷◌, drop}
 use Rattle.std.proofs.lemmas.Bool.{false≢true}
 use Rattle.np_frac.specs.Ratio.{Ratio}
-use Rattle.np_model.specs.Valid.{IsScheme, IsScheme-prop}
-use Rattle.np_model.specs.declared.scheme.Flow.{Flow}
+use Rattle.np_records.specs.Records.{records_of}
+use Rattle.net_csv.specs.Grammar.{IsSchemeOf}
+use Rattle.net_csv.specs.declared.refused.Code.{Code}
 use Rattle.np_model.specs.declared.scheme.Scheme.{Scheme}
 use Rattle.np_model.specs.declared.plan.Plan.{Plan}
-use Rattle.netplan_top.specs.Reads.{Reads}
-use Rattle.netplan_top.specs.NetworkForm.{IsSchemeOf}
+use Rattle.netplan_top.specs.Reads.{HasNetwork, Reads, flow_names}
+use Rattle.netplan_top.specs.Split.{body_of}
 use Rattle.netplan_top.specs.PlanForm.{IsPlanOf, costs}
-
-abbrev made : (k : ℕ) (n : List (List ℕ)) (u : List Ratio) (f : List Flow) → IsScheme k n u f → Scheme
-made k n u f v = record { periods = k; nodes = n; supply = u; flows = f; valid = v }
-
-same_flows : (k : ℕ) (n : List (List ℕ)) (u : List Ratio) (f g : List Flow) → f ≡ g → (v : IsScheme k n u f) (w : IsScheme k n u g) → made k n u f v ≡ made k n u g w
-same_flows k n u f g e =
-    subst (λ (x : List Flow). (v : IsScheme k n u f) (w : IsScheme k n u x) → made k n u f v ≡ made k n u x w) e
-    (λ v w. ap (made k n u f) (IsScheme-prop k n u f v w))
-
-same_supply : (k : ℕ) (n : List (List ℕ)) (u r : List Ratio) (f g : List Flow) → u ≡ r → f ≡ g → (v : IsScheme k n u f) (w : IsScheme k n r g) → made k n u f v ≡ made k n r g w
-same_supply k n u r f g d e =
-    subst (λ (x : List Ratio). (v : IsScheme k n u f) (w : IsScheme k n x g) → made k n u f v ≡ made k n x g w) d (same_flows k n u f g e)
-
-same_nodes : (k : ℕ) (n m : List (List ℕ)) (u r : List Ratio) (f g : List Flow) → n ≡ m → u ≡ r → f ≡ g → (v : IsScheme k n u f) (w : IsScheme k m r g) → made k n u f v ≡ made k m r g w
-same_nodes k n m u r f g c d e =
-    subst (λ (x : List (List ℕ)). (v : IsScheme k n u f) (w : IsScheme k x r g) → made k n u f v ≡ made k x r g w) c (same_supply k n u r f g d e)
-
-same_made : (k l : ℕ) (n m : List (List ℕ)) (u r : List Ratio) (f g : List Flow) → k ≡ l → n ≡ m → u ≡ r → f ≡ g → (v : IsScheme k n u f) (w : IsScheme l m r g) → made k n u f v ≡ made l m r g w
-same_made k l n m u r f g b c d e =
-    subst (λ (x : ℕ). (v : IsScheme k n u f) (w : IsScheme x m r g) → made k n u f v ≡ made x m r g w) b (same_nodes k n m u r f g c d e)
-
-same_scheme : (s t : Scheme) → s.periods ≡ t.periods → s.nodes ≡ t.nodes → s.supply ≡ t.supply → s.flows ≡ t.flows → s ≡ t
-same_scheme s t p n u f = same_made s.periods t.periods s.nodes t.nodes s.supply t.supply s.flows t.flows p n u f s.valid t.valid
-
-pub one_scheme : (rows : List (List (List ℕ))) (s t : Scheme) → IsSchemeOf rows s → IsSchemeOf rows t → s ≡ t
-one_scheme rows s t a b =
-    same_scheme s t (a.periods ∙ sym b.periods) (a.nodes ∙ sym b.nodes) (a.supply ∙ sym b.supply) (a.flows ∙ sym b.flows)
 
 first : List Ratio → Option Ratio
 first [] = None
@@ -70,8 +44,24 @@ one_plan nodes arcs rows p q a b =
       log = record { turned = turned i; entries = entries i };
     }
 
-pub scheme_is : (input : List ℕ) (s t : Scheme) (p q : Plan) → Reads input s p → Reads input t q → s ≡ t
-scheme_is input s t p q a b = one_scheme _ s t a.scheme_is b.scheme_is
+-- ---- the two texts of an input
 
-pub plan_is : (input : List ℕ) (s t : Scheme) (p q : Plan) → Reads input s p → Reads input t q → p ≡ q
-plan_is input s t p q a b = one_plan _ _ _ p q a.plan_is b.plan_is
+-- an input has one network text, if any
+abbrev pub OneScheme : Type 0
+OneScheme = (rows : List (List (List ℕ))) (s t : Scheme) → IsSchemeOf rows s → IsSchemeOf rows t → s ≡ t
+
+ok_is : (x : Result ℕ (ℕ × Code)) (k l : ℕ) → x ≡ Ok k → x ≡ Ok l → k ≡ l
+ok_is x k l a b = cc
+
+pub rest_is : (input : List ℕ) (s t : Scheme) (x y : List (List (List ℕ))) → HasNetwork input s x → HasNetwork input t y → x ≡ y
+rest_is input s t x y a b = a.rest_is ∙ ap (λ (k : ℕ). drop k (records_of input)) (ok_is _ a.count b.count a.network b.network) ∙ sym b.rest_is
+
+pub scheme_is : OneScheme → (input : List ℕ) (s t : Scheme) (p q : Plan) → Reads input s p → Reads input t q → s ≡ t
+scheme_is law input s t p q a b = law _ s t a.network.scheme_is b.network.scheme_is
+
+pub plan_is : OneScheme → (input : List ℕ) (s t : Scheme) (p q : Plan) → Reads input s p → Reads input t q → p ≡ q
+plan_is law input s t p q a b =
+    let e : s ≡ t = scheme_is law input s t p q a b in
+    let f : a.rest ≡ b.rest = rest_is input s t a.rest b.rest a.network b.network in
+    one_plan _ _ _ p q (subst (λ (u : Scheme). IsPlanOf u.nodes (flow_names u.flows) (body_of b.rest) p) e
+    (subst (λ (rows : List (List (List ℕ))). IsPlanOf s.nodes (flow_names s.flows) (body_of rows) p) f a.plan_is)) b.plan_is

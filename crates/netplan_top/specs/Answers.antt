@@ -5,6 +5,8 @@ use Rattle.np_frac.specs.Ratio.{Ratio}
 use Rattle.np_frac.specs.declared.frac.Past.{Past}
 use Rattle.np_io.specs.Faults.{Rose}
 use Rattle.np_io.specs.Input.{TookExactly}
+use Rattle.net_csv.specs.Words.{code_word}
+use Rattle.net_csv.specs.declared.refused.Code.{Code}
 use Rattle.np_model.specs.declared.plan.CheckRow.{CheckRow}
 use Rattle.np_model.specs.declared.plan.Plan.{Plan}
 use Rattle.np_model.specs.declared.scheme.Scheme.{Scheme}
@@ -16,8 +18,10 @@ use Rattle.cert_checker.specs.declared.answer.CheckRefusal.{CheckRefusal}
 use Rattle.cert_checker.specs.declared.answer.CheckRefusal.TheVariants as refusal
 use Rattle.std.specs.declared.string.String.{String}
 use Rattle.std.specs.declared.alloc.Global.{Global}
+use Rattle.netplan_top.specs.declared.stop.Stop.{Stop}
+use Rattle.netplan_top.specs.declared.stop.Stop.TheVariants as stop
 use Rattle.netplan_top.specs.Words.{IsCommand, usage_text}
-use Rattle.netplan_top.specs.Reads.{IsInForm, Reads}
+use Rattle.netplan_top.specs.Reads.{IsFault, IsUntaken, Reads}
 use Rattle.netplan_top.specs.Texts.{refused_text, check_text, accepted_line, rejected_line, past_line}
 
 -- the most bytes of an input
@@ -57,16 +61,23 @@ pub record Says (claim : Scheme → Plan → List ℕ → Type 0) (input : List 
   pub reads : Reads input scheme plan
   pub says : claim scheme plan text
 
--- the input is outside the form that is taken so far
+-- the network text has a first fault, which the text names
+pub record IsFaulty (input : List ℕ) (text : List ℕ) : Type 0 where
+  pub place : ℕ
+  pub code : Code
+  pub fault : IsFault input place code
+  pub text_is : text ≡ refused_text place (code_word code)
+
+-- the network text has none, and what is there is not taken so far
 pub record IsLater (input : List ℕ) (text : List ℕ) : Type 0 where
-  pub outside : ¬ (IsInForm input)
-  pub text_is : text ≡ refused_text (codes "Later")
+  pub untaken : IsUntaken input
+  pub text_is : text ≡ refused_text 0 (codes "Later")
 
 -- the text is what is said of the input with this status
 pub record IsAnswer (input : List ℕ) (status : ℕ) (text : List ℕ) : Type 0 where
   pub accepts : status ≡ 0 → Says Accepts input text
   pub passes : status ≡ 4 → Says Passes input text
-  pub refuses : status ≡ 5 → IsLater input text
+  pub refuses : status ≡ 5 → IsFaulty input text ⊎ IsLater input text
   pub rejects : status ≡ 10 → Says Rejects input text
   pub known : (status ≡ 0) ⊎ (status ≡ 4) ⊎ (status ≡ 5) ⊎ (status ≡ 10)
 
@@ -81,7 +92,7 @@ pub record IsWholeInput (before after : Option (List ℕ)) (input : List ℕ) : 
 -- more bytes came than an input may have, and reading stopped there
 pub record IsTooLong (before after : Option (List ℕ)) (text : List ℕ) : Type 0 where
   pub taken : TookExactly (longest + 1) before after
-  pub text_is : text ≡ refused_text (codes "TooLong")
+  pub text_is : text ≡ refused_text 0 (codes "TooLong")
 
 -- all of the text was written
 abbrev pub Wrote : Option (List ℕ) → Option (List ℕ) → List ℕ → Type 0
@@ -130,6 +141,12 @@ pub record IsJudged (scheme : Scheme) (plan : Plan) (status : ℕ) (text : List 
   pub passes : status ≡ 4 → Passes scheme plan text
   pub rejects : status ≡ 10 → Rejects scheme plan text
   pub known : (status ≡ 0) ⊎ (status ≡ 4) ⊎ (status ≡ 10)
+
+-- why the input was not read, with the status and the text of it
+abbrev pub IsStopped : Stop → ℕ → List ℕ → Type 0
+IsStopped (stop.Fault place code) status text = (status ≡ 5) × (text ≡ refused_text place (code_word code))
+IsStopped stop.Outside status text = (status ≡ 5) × (text ≡ refused_text 0 (codes "Later"))
+IsStopped stop.Memory status text = ⊥
 
 -- ---- the statuses
 

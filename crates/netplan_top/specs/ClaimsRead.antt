@@ -5,12 +5,11 @@ use Rattle.std.specs.Option.{option_to_list}
 use Rattle.np_frac.specs.Ratio.{Ratio}
 use Rattle.np_records.specs.Names.{place_of}
 use Rattle.np_records.specs.Records.{field_of}
-use Rattle.np_frac.specs.Amount.{amount_of}
+use Rattle.np_frac.specs.Text.{IsFraction, fraction_of}
 use Rattle.netplan_top.specs.declared.claims.Draft.{Draft}
-use Rattle.netplan_top.specs.Fields.{IsWholeAmount, IsOnlyPeriod}
+use Rattle.netplan_top.specs.Fields.{IsOnlyPeriod}
 use Rattle.netplan_top.specs.Split.{is_end, up_to_end}
-use Rattle.netplan_top.specs.NetworkForm.{given_at}
-use Rattle.netplan_top.specs.PlanForm.{AreClaims, costs, flows_given, prices_given}
+use Rattle.netplan_top.specs.PlanForm.{given_at, AreClaims, costs, flows_given, prices_given}
 
 -- what is given at each of the names, in their order
 abbrev pub table_of : List (List ℕ) → List (ℕ × Ratio) → List (Option Ratio)
@@ -21,8 +20,8 @@ pub record GivesAmount (names : List (List ℕ)) (r : List (List ℕ)) (place : 
   pub fields : length r ≡ 4
   pub found : place_of names (field_of r 1) ≡ Some place
   pub period : IsOnlyPeriod (field_of r 2)
-  pub whole : IsWholeAmount (field_of r 3)
-  pub value : amount ≡ amount_of (field_of r 3)
+  pub fraction : IsFraction (field_of r 3)
+  pub value : amount ≡ fraction_of (field_of r 3)
 
 -- the draft has what these records give
 pub record HasClaims (nodes arcs : List (List ℕ)) (rows : List (List (List ℕ))) (draft : Draft) : Type 0 where

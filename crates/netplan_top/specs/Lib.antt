@@ -1,13 +1,11 @@
 pub mod Fields
 pub mod Split
-pub mod NetworkForm
 pub mod PlanForm
 pub mod Reads
 pub mod Texts
 pub mod Words
 pub mod Answers
 pub mod Endings
-pub mod NetworkTables
-pub mod NetworkRead
 pub mod ClaimsRead
 pub mod InputRead
+pub mod Stops

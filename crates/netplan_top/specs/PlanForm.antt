@@ -1,24 +1,30 @@
--- The plan texts that are taken so far: an optimal plan of one period in whole numbers. Each record is tested by its place.
-use Rattle.std.specs.Prelude.{◌≡◌, ℕ, ◌<◌, Option, Some, None, IsSome, IfSome, unwrap_or, option_map, List, [], ◌∷◌, length, take, drop, map, codes, slice_get, slice_index_or, MatchBool, true, if◌then◌else◌}
+-- The plan texts that are taken so far: an optimal plan of one period. Each record is tested by its place.
+use Rattle.std.specs.Prelude.{◌≡◌, ℕ, ◌<◌, ◌==◌, Option, Some, None, IsSome, IfSome, unwrap_or, option_map, List, [], ◌∷◌, length, take, drop, map, codes, slice_get, slice_index_or, MatchBool, true, if◌then◌else◌}
 use Rattle.std.specs.List.{filter_map, list_any, range_with_len}
+use Rattle.std.specs.Option.{option_or}
 use Rattle.np_frac.specs.Ratio.{Ratio, zero_ratio}
-use Rattle.np_frac.specs.Amount.{amount_of}
+use Rattle.np_frac.specs.Text.{IsFraction, fraction_of}
 use Rattle.np_records.specs.Names.{place_of}
 use Rattle.np_records.specs.Records.{field_of}
 use Rattle.np_model.specs.declared.plan.Verdict.TheVariants.{Optimal}
 use Rattle.np_model.specs.declared.plan.Plan.{Plan}
-use Rattle.netplan_top.specs.Fields.{IsWholeAmount, IsOnlyPeriod}
+use Rattle.netplan_top.specs.Fields.{IsOnlyPeriod}
 use Rattle.netplan_top.specs.Split.{is_end, body_of, rest_of}
-use Rattle.netplan_top.specs.NetworkForm.{is_kind, given_at}
+use Rattle.net_csv.specs.Network.{is_kind}
 
 -- ---- what records give
 
+-- the last amount that is given for a place
+abbrev pub given_at : List (ℕ × Ratio) → ℕ → Option Ratio
+given_at [] place = None
+given_at (given ∷ later) place = option_or (given_at later place) (if given.0 == place then Some given.1 else None)
+
 abbrev pub cost_in : List (List ℕ) → Option Ratio
-cost_in r = if is_kind r (codes "cost") then Some (amount_of (field_of r 1)) else None
+cost_in r = if is_kind r (codes "cost") then Some (fraction_of (field_of r 1)) else None
 
 -- the place and the amount that a record of this kind gives, by the place of its name
 abbrev pub amount_in : List ℕ → List (List ℕ) → List (List ℕ) → Option (ℕ × Ratio)
-amount_in kind names r = if is_kind r kind then option_map (λ place. (place, amount_of (field_of r 3))) (place_of names (field_of r 1)) else None
+amount_in kind names r = if is_kind r kind then option_map (λ place. (place, fraction_of (field_of r 3))) (place_of names (field_of r 1)) else None
 
 abbrev pub costs : List (List (List ℕ)) → List Ratio
 costs rows = filter_map cost_in rows
@@ -34,7 +40,7 @@ prices_given nodes rows = filter_map (amount_in (codes "price") nodes) rows
 -- the only cost
 pub record IsCost (before : List Ratio) (r : List (List ℕ)) : Type 0 where
   pub fields : length r ≡ 2
-  pub amount : IsWholeAmount (field_of r 1)
+  pub amount : IsFraction (field_of r 1)
   pub only : before ≡ []
 
 -- an amount for a name that is defined, the only one for its place
@@ -42,7 +48,7 @@ pub record IsAmountFor (names : List (List ℕ)) (before : List (ℕ × Ratio)) 
   pub fields : length r ≡ 4
   pub name : IsSome (place_of names (field_of r 1))
   pub period : IsOnlyPeriod (field_of r 2)
-  pub amount : IsWholeAmount (field_of r 3)
+  pub amount : IsFraction (field_of r 3)
   pub only : IfSome (place_of names (field_of r 1)) (λ place. given_at before place ≡ None)
 
 -- a record of the plan, after these records of it

@@ -20,9 +20,9 @@ end_record = codes "end" ∷ []
 unfoldable pub framed_text : List ℕ → List (List ℕ) → List ℕ
 framed_text kind line = records_text ((kind ∷ codes "1" ∷ []) ∷ line ∷ end_record ∷ [])
 
--- the input was refused as a whole, for this reason
-abbrev pub refused_text : List ℕ → List ℕ
-refused_text code = framed_text (codes "netplan-refused") (codes "fault" ∷ codes "0" ∷ code ∷ [])
+-- the input was refused for a fault of the record with this number, or as a whole where that is 0
+abbrev pub refused_text : ℕ → List ℕ → List ℕ
+refused_text place code = framed_text (codes "netplan-refused") (codes "fault" ∷ decimal place ∷ code ∷ [])
 
 -- ---- answers of the checker
 

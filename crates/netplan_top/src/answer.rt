@@ -1,10 +1,10 @@
 //! What is said of an input.
 
-ghost use Rattle.std.specs.Prelude.{◌≡◌, IfOk};
+ghost use Rattle.std.specs.Prelude.{◌≡◌, ◌<◌, ◌^◌, IfOk, length};
 ghost use Rattle.np_model.specs.declared.plan.Verdict.TheVariants as verdict;
 ghost use Rattle.np_model.specs.Fits.{PlanFits};
 ghost use Rattle.cert_checker.specs.Plain.{IsPlain};
-ghost use Rattle.netplan_top.specs.Answers.{IsAnswer, IsJudged, IsRefused};
+ghost use Rattle.netplan_top.specs.Answers.{IsAnswer, IsJudged, IsRefused, IsStopped};
 
 use crate::input::read_input;
 use crate::stop::Stop;
@@ -58,16 +58,25 @@ fn judged(alloc: Global, scheme: &Scheme, plan: &Plan) -> Result<Answer, Memory>
     }
 }
 
+// What is said where the input was not read.
+fn stopped(alloc: Global, stop: Stop) -> Result<Answer, Memory>
+    ensures { IfOk result (λ answer. IsStopped stop answer.status answer.text.items) }
+{
+    let text = match stop {
+        Stop::Fault { place, code } => refusal(alloc, place, code.word())?,
+        Stop::Outside => refusal(alloc, 0, b"Later")?,
+        Stop::Memory => return Err(Memory),
+    };
+    Ok(Answer { status: 5, text })
+}
+
 /// What is said of an input.
 pub(crate) fn answer_of(alloc: Global, bytes: &[u8]) -> Result<Answer, Memory>
+    requires { length bytes.now < 2 ^ 32 }
     ensures { IfOk result (λ answer. IsAnswer bytes.now answer.status answer.text.items) }
 {
     match read_input(alloc, bytes) {
         Ok(input) => judged(alloc, &input.scheme, &input.plan),
-        Err(Stop::Outside) => {
-            let text = refusal(alloc, b"Later")?;
-            Ok(Answer { status: 5, text })
-        }
-        Err(Stop::Memory) => Err(Memory),
+        Err(stop) => stopped(alloc, stop),
     }
 }

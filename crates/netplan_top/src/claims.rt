@@ -2,7 +2,7 @@
 
 ghost use Rattle.std.specs.Prelude.{◌≡◌, ◌≢◌, ◌+◌, ◌<◌, ◌∷◌, ◌++◌, [], ℕ, List, Some, None, IfOk, IfSome, MatchBool, MatchOption, MatchResult, length, map, slice_get, slice_set, unwrap_or};
 ghost use Rattle.np_frac.specs.Ratio.{Ratio, zero_ratio};
-ghost use Rattle.np_frac.specs.Amount.{amount_of};
+ghost use Rattle.np_frac.specs.Text.{fraction_of};
 ghost use Rattle.std.specs.Option.{option_to_list};
 ghost use Rattle.csv.specs.Records.{fields_of};
 ghost use Rattle.np_records.specs.Names.{place_of};
@@ -12,10 +12,10 @@ ghost use Rattle.netplan_top.specs.PlanForm.{IsCost, IsAmountFor, IsClaim, IsPla
 ghost use Rattle.netplan_top.specs.ClaimsRead.{table_of, GivesAmount, HasClaims, AreEndedClaims, ReadsClaims};
 ghost use Rattle.netplan_top.specs.Reads.{StopsFor};
 
-use crate::fields::{is_only_period, whole_amount};
+use crate::fields::is_only_period;
 use crate::rows::{is_end, read_pair};
 use crate::stop::Stop;
-use np_frac::{Frac, Memory};
+use np_frac::{Frac, Memory, read_frac};
 use np_model::{Entries, Fracs, Log, Plan, Verdict};
 use np_records::{ByteRecord, NameTable, Records, field};
 use std::alloc::Global;
@@ -39,7 +39,7 @@ fn amount_for(names: &NameTable, row: &ByteRecord) -> Option<(usize, Frac)>
         return None;
     }
     let place = names.index_of(field(row, 1))?;
-    let amount = whole_amount(field(row, 3))?;
+    let amount = read_frac(field(row, 3))?;
     Some((place, amount))
 }
 
@@ -63,7 +63,7 @@ fn give(table: &mut [Option<Frac>], names: &NameTable, row: &ByteRecord) -> bool
     ensures { (given : List (ℕ × Ratio)) → table.old ≡ table_of names.now given → MatchBool result
         (IsAmountFor names.now given (fields_of row.now) × (place : ℕ)
         × (place_of names.now (field_of (fields_of row.now) 1) ≡ Some place)
-        × (table.new ≡ table_of names.now (given ++ (place, amount_of (field_of (fields_of row.now) 3)) ∷ [])))
+        × (table.new ≡ table_of names.now (given ++ (place, fraction_of (field_of (fields_of row.now) 3)) ∷ [])))
         (¬ (IsAmountFor names.now given (fields_of row.now))) }
 {
     match amount_for(names, row) {
@@ -90,13 +90,13 @@ impl Draft {
     fn take_cost(&mut self, row: &ByteRecord) -> bool
         ensures { (before : List Ratio) → before ≡ option_to_list self.old.cost → MatchBool result
             (IsCost before (fields_of row.now)
-            × (self.new ≡ record self.old { cost = Some (amount_of (field_of (fields_of row.now) 1)) }))
+            × (self.new ≡ record self.old { cost = Some (fraction_of (field_of (fields_of row.now) 1)) }))
             (¬ (IsCost before (fields_of row.now))) }
     {
         if row.len() != 2 || self.cost.is_some() {
             return false;
         }
-        self.cost = whole_amount(field(row, 1));
+        self.cost = read_frac(field(row, 1));
         self.cost.is_some()
     }
 
@@ -189,7 +189,7 @@ fn plan_of(alloc: Global, draft: &Draft, cost: Frac) -> Result<Plan, Memory>
 
 /// Reads the plan text that stands next in the records, to their end, for a network with these names.
 ///
-/// `Outside` comes exactly where it is no plan text of the narrow form, and `Memory` where memory ran out.
+/// `Outside` comes exactly where it is no plan text of the form that is taken so far, and `Memory` where memory ran out.
 pub(crate) fn read_plan(
     alloc: Global,
     records: &mut Records<'_>,

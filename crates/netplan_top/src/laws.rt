@@ -6,14 +6,20 @@ ghost use Rattle.np_model.specs.declared.plan.Plan.{Plan};
 ghost use Rattle.netplan_top.specs.Reads.{Reads};
 ghost use Rattle.netplan_top.specs.Answers.{IsAnswer};
 
+use net_csv::laws::one_scheme;
+
 /// An input stands for at most one scheme and one plan.
 pub fn one_reading()
     ensures scheme { (input : List ℕ) (s t : Scheme) (p q : Plan) → Reads input s p → Reads input t q → s ≡ t }
     ensures plan { (input : List ℕ) (s t : Scheme) (p q : Plan) → Reads input s p → Reads input t q → p ≡ q }
-{}
+{
+    one_scheme();
+}
 
 /// What is said of an input, by the statuses 0, 4, 5 and 10, is one status and one text.
 pub fn one_answer()
     ensures status { (input : List ℕ) (s t : ℕ) (x y : List ℕ) → IsAnswer input s x → IsAnswer input t y → s ≡ t }
     ensures text { (input : List ℕ) (s t : ℕ) (x y : List ℕ) → IsAnswer input s x → IsAnswer input t y → x ≡ y }
-{}
+{
+    one_scheme();
+}

@@ -3,11 +3,10 @@
 
 mod answer;
 mod claims;
-mod draft;
 mod fields;
 mod input;
 pub mod laws;
-mod network;
+mod names;
 mod rows;
 mod stop;
 mod texts;

@@ -26,14 +26,22 @@ fn framed(alloc: Global, kind: &[u8], line: &[&[u8]]) -> Result<Vec<u8>, Memory>
     text.into_bytes()
 }
 
-/// The text that refuses an input as a whole.
-pub fn refusal(alloc: Global, code: &[u8]) -> Result<Vec<u8>, Memory>
-    ensures { IfOk result (λ text. text.items ≡ refused_text code.now) }
+/// The text that refuses an input for a fault of the record with this number, or as a whole where that is 0.
+pub fn refusal(alloc: Global, place: u32, code: &[u8]) -> Result<Vec<u8>, Memory>
+    ensures { IfOk result (λ text. text.items ≡ refused_text place code.now) }
+{
+    let mut buffer = Buffer::new();
+    refusal_at(alloc, buffer.format(place).as_bytes(), code)
+}
+
+// The same, with the number as it is printed.
+fn refusal_at<'a>(alloc: Global, place: &'a [u8], code: &'a [u8]) -> Result<Vec<u8>, Memory>
+    ensures { IfOk result (λ text. text.items ≡ framed_text (codes "netplan-refused") (codes "fault" ∷ place.now ∷ code.now ∷ [])) }
 {
     framed(
         alloc,
         b"netplan-refused".as_slice(),
-        &[b"fault".as_slice(), b"0".as_slice(), code],
+        &[b"fault".as_slice(), place, code],
     )
 }
 

@@ -3,7 +3,7 @@
 ghost use Rattle.std.specs.Prelude.{◌≡◌, ◌<◌, ◌↔◌, ◌⊎◌, IsTrue, length};
 ghost use Rattle.np_io.specs.Faults.{Rose};
 ghost use Rattle.netplan_top.specs.Words.{IsCommand, usage_text};
-ghost use Rattle.netplan_top.specs.Answers.{Accepts, Passes, Rejects, IsLater, Says, Gives, GivesTooLong, IsCut, IsAllowed, IsStatus, Wrote};
+ghost use Rattle.netplan_top.specs.Answers.{Accepts, Passes, Rejects, IsFaulty, IsLater, Says, Gives, GivesTooLong, IsCut, IsAllowed, IsStatus, Wrote};
 ghost use Rattle.netplan_top.specs.Endings.{IsPrinted, Ending};
 
 use crate::answer::answer_of;
@@ -49,7 +49,7 @@ fn check_input<S: Source, K: Sink>(alloc: Global, source: &mut S, sink: &mut K) 
             Ok(answer) => print(sink, &answer.text, answer.status),
             Err(_) => 9,
         },
-        Err(ReadRefusal::TooLong) => match refusal(alloc, b"TooLong") {
+        Err(ReadRefusal::TooLong) => match refusal(alloc, 0, b"TooLong") {
             Ok(text) => print(sink, &text, 5),
             Err(_) => 9,
         },
@@ -68,7 +68,7 @@ fn check_input<S: Source, K: Sink>(alloc: Global, source: &mut S, sink: &mut K) 
 /// |---|---|---|
 /// | 0 | accepted, with the cost | no feasible plan costs less |
 /// | 4 | the operation | its exact result does not fit a fraction, and nothing before it in the walk fails |
-/// | 5 | refusal | the input has more than 16,777,216 bytes, or is outside the form that is taken so far |
+/// | 5 | the fault | the network text has this first fault; or it has none, and what stands there is not taken so far (`Later`); or the input has more than 16,777,216 bytes (`TooLong`) |
 /// | 6 | usage | the words are no command |
 /// | 7 | nothing | the source failed |
 /// | 8 | a part of a text | the sink failed |
@@ -93,7 +93,8 @@ pub fn run<S: Source, K: Sink, G: Gate>(
     ensures accepted { result ≡ 0 → Gives (Says Accepts) (S.left source.old) (S.left source.new) (K.written sink.old) (K.written sink.new) }
     ensures passed { result ≡ 4 → Gives (Says Passes) (S.left source.old) (S.left source.new) (K.written sink.old) (K.written sink.new) }
     ensures rejected { result ≡ 10 → Gives (Says Rejects) (S.left source.old) (S.left source.new) (K.written sink.old) (K.written sink.new) }
-    ensures refused { result ≡ 5 → Gives IsLater (S.left source.old) (S.left source.new) (K.written sink.old) (K.written sink.new)
+    ensures refused { result ≡ 5 → Gives IsFaulty (S.left source.old) (S.left source.new) (K.written sink.old) (K.written sink.new)
+        ⊎ Gives IsLater (S.left source.old) (S.left source.new) (K.written sink.old) (K.written sink.new)
         ⊎ GivesTooLong (S.left source.old) (S.left source.new) (K.written sink.old) (K.written sink.new) }
 
     // The source or the sink failed, or memory ran out.

@@ -1,7 +1,7 @@
 use Rattle.std.proofs.Common.{◌≡◌, refl, ◌∙◌, true, codes, rules}
 use Rattle.std.proofs.lemmas.List.{with_items_is}
 use Rattle.csv.specs.Records.{fields_of}
-use Rattle.netplan_top.specs.NetworkForm.{is_kind}
+use Rattle.net_csv.specs.Network.{is_kind}
 use Rattle.netplan_top.specs.PlanForm.{costs, flows_given, prices_given}
 use Rattle.netplan_top.proofs.ClaimsDraft.{takes-cost, takes-flow, takes-price}
 use Rattle.netplan_top.proofs.claims.Draft.take.Goals as goal
