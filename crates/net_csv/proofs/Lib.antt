@@ -13,3 +13,14 @@ mod Tails
 mod Kept
 mod SupplyFacts
 mod SchemeValid
+mod AmountTexts
+mod Runs
+mod WrittenNames
+mod WrittenFields
+mod WrittenFlows
+mod WrittenBands
+mod WrittenSupplies
+mod WrittenNodes
+mod Written
+mod OneScheme
+mod WrittenTexts

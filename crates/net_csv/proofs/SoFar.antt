@@ -85,8 +85,8 @@ ready-of periods body some few kept room =
     let short = names-short body in
     record { kept = kept; some_period = some; few_periods = room.periods; few_flows = omega arith; few_arcs = room.arcs }
 
-ready-here : (rows left : List (List (List ℕ))) (place : ℕ) (t : Tables) → IsSoFar rows left place t → length rows < 2 ^ 32 → IsReady t
-ready-here rows left place t s few =
+pub so_far-ready : (rows left : List (List (List ℕ))) (place : ℕ) (t : Tables) → IsSoFar rows left place t → length rows < 2 ^ 32 → IsReady t
+so_far-ready rows left place t s few =
     let all = length-append s.before left in
     let short = drop-short 2 s.before in
     let size : length rows ≡ length (s.before ++ left) = ap length s.whole in
@@ -143,8 +143,8 @@ so_far-no_end rows place at t s e =
     refuses-at rows place at code.NoEnd (omega arith) s.none (rw out refl) e
 
 pub so_far-end : (rows left : List (List (List ℕ))) (place at : ℕ) (t : Tables) (r : List (List ℕ)) → IsSoFar rows (r ∷ left) place t → at ≡ place + 1
-    → is_kind r (codes "end") ≡ true → fields_fault 1 r ≡ None → length rows < 2 ^ 32 → IsTextRead rows left t at
-so_far-end rows left place at t r s e end one few =
+    → is_kind r (codes "end") ≡ true → fields_fault 1 r ≡ None → IsTextRead rows left t at
+so_far-end rows left place at t r s e end one =
     let within = inside rows left place t r s in
     let two = s.two in
     let size = s.size in
@@ -159,7 +159,6 @@ so_far-end rows left place at t r s e end one few =
       records = rw stop e;
       within = omega arith;
       tables = s.tables ∙ ap (λ (l : List (List (List ℕ))). tables_of (periods_in rows) l) (sym (rw stop (body-here rows (r ∷ left) place t s)));
-      ready = ready-here rows (r ∷ left) place t s few;
       left = rw (s.whole, sym (append_assoc s.before (r ∷ []) left)) (sym (drop_at (s.before ++ r ∷ []) left at (omega arith)));
     }
 

@@ -9,10 +9,10 @@ use Rattle.net_csv.specs.declared.refused.Refused.TheVariants as refused
 use Rattle.net_csv.specs.declared.refused.Tail.{Tail}
 use Rattle.net_csv.specs.declared.refused.Tail.TheVariants as tail
 use Rattle.net_csv.specs.Grammar.{read_records, stop_of, periods_in, body_of, IsSchemeOf}
-use Rattle.net_csv.specs.Tables.{Tables, IsMadeOf, tables_of}
+use Rattle.net_csv.specs.Tables.{Tables, IsMadeOf, IsReady, tables_of}
 use Rattle.net_csv.specs.Reading.{IsRefusal, IsTextRead, IsWholeRead, ReadsScheme, RefusesAt}
 
-told-plan : (rows after : List (List (List ℕ))) (t : Tables) (count : ℕ) → IsTextRead rows after t count → read_records tail.Plan rows ≡ Ok count
+pub told-plan : (rows after : List (List (List ℕ))) (t : Tables) (count : ℕ) → IsTextRead rows after t count → read_records tail.Plan rows ≡ Ok count
 told-plan rows after t count h = rw (h.fault, h.records) refl
 
 none-left : {X : Type 0} (k : ℕ) (xs : List X) → [] ≡ drop k xs → length xs ≤ k
@@ -27,7 +27,7 @@ some-left zero (x ∷ xs) ys y e = omega arith
 some-left (suc k) [] ys y e = absurd (cc e)
 some-left (suc k) (x ∷ xs) ys y e = let h = some-left k xs ys y e in omega arith
 
-told-nothing : (rows : List (List (List ℕ))) (t : Tables) (count : ℕ) → IsTextRead rows [] t count → read_records tail.Nothing rows ≡ Ok count
+pub told-nothing : (rows : List (List (List ℕ))) (t : Tables) (count : ℕ) → IsTextRead rows [] t count → read_records tail.Nothing rows ≡ Ok count
 told-nothing rows t count h =
     let short = none-left count rows h.left in
     let same = h.records in
@@ -36,11 +36,11 @@ told-nothing rows t count h =
 
 -- the whole text
 
-pub whole-plan : (rows after : List (List (List ℕ))) (t : Tables) (count : ℕ) → IsTextRead rows after t count → IsWholeRead tail.Plan rows t count
-whole-plan rows after t count h = record { told = told-plan rows after t count h; tables = h.tables; ready = h.ready }
+pub whole-plan : (rows after : List (List (List ℕ))) (t : Tables) (count : ℕ) → IsTextRead rows after t count → IsReady t → IsWholeRead tail.Plan rows t count
+whole-plan rows after t count h ready = record { told = told-plan rows after t count h; tables = h.tables; ready = ready }
 
-pub whole-nothing : (rows : List (List (List ℕ))) (t : Tables) (count : ℕ) → IsTextRead rows [] t count → IsWholeRead tail.Nothing rows t count
-whole-nothing rows t count h = record { told = told-nothing rows t count h; tables = h.tables; ready = h.ready }
+pub whole-nothing : (rows : List (List (List ℕ))) (t : Tables) (count : ℕ) → IsTextRead rows [] t count → IsReady t → IsWholeRead tail.Nothing rows t count
+whole-nothing rows t count h ready = record { told = told-nothing rows t count h; tables = h.tables; ready = ready }
 
 scheme-of : (rows : List (List (List ℕ))) (tables : Tables) (scheme : Scheme) → tables ≡ tables_of (periods_in rows) (body_of rows) → IsMadeOf tables scheme → IsSchemeOf rows scheme
 unfolding tables_of

@@ -6,3 +6,5 @@ pub mod Tables
 pub mod Reading
 pub mod Supply
 pub mod Words
+pub mod AmountText
+pub mod Writing

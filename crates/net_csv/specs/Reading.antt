@@ -29,7 +29,6 @@ pub record IsTextRead (rows after : List (List (List ℕ))) (t : Tables) (count 
   pub records : count ≡ stop_of rows + 1
   pub within : count ≤ length rows
   pub tables : t ≡ tables_of (periods_in rows) (body_of rows)
-  pub ready : IsReady t
   pub left : after ≡ drop count rows
 
 -- what the grammar tells is this fault, or memory ran out

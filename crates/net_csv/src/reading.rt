@@ -6,7 +6,7 @@ ghost use Rattle.np_frac.specs.Text.{number};
 ghost use Rattle.np_records.specs.Records.{field_of, records_of};
 ghost use Rattle.net_csv.specs.declared.refused.Code.TheVariants as code;
 ghost use Rattle.net_csv.specs.Fields.{Reads, unless};
-ghost use Rattle.net_csv.specs.Tables.{HasRoom, TakesRow};
+ghost use Rattle.net_csv.specs.Tables.{HasRoom, IsReady, TakesRow};
 ghost use Rattle.net_csv.specs.Grammar.{is_header, periods_fault, read_records};
 ghost use Rattle.net_csv.specs.Reading.{IsHeadRead, IsTextRead, IsWholeRead, IsRefusal, ReadsScheme, RefusesAt};
 
@@ -97,7 +97,7 @@ fn take(alloc: Global, draft: &mut Draft, row: &ByteRecord, place: u32) -> Resul
 pub(crate) fn read_text(alloc: Global, records: &mut Records) -> Result<(Draft, u32), Refused>
     requires { length records.old < 2 ^ 32 - 2 }
     ensures { MatchResult result
-        (λ read. IsTextRead records.old records.new read.0 read.1)
+        (λ read. IsTextRead records.old records.new read.0 read.1 × IsReady read.0)
         (λ refused. RefusesAt refused records.old) }
 {
     let mut row = ByteRecord::new(alloc);

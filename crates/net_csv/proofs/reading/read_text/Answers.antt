@@ -1,7 +1,7 @@
 use Rattle.std.proofs.Common.{rules, refl, arith, ◌≡◌, ◌∷◌, [], true, false}
 use Rattle.std.proofs.lemmas.Result.{err_from_is_err_and}
 use Rattle.csv.specs.Records.{fields_of}
-use Rattle.net_csv.proofs.SoFar.{so_far-head, so_far-no_end, so_far-end, so_far-more, row-refused}
+use Rattle.net_csv.proofs.SoFar.{so_far-ready, so_far-head, so_far-no_end, so_far-end, so_far-more, row-refused}
 use Rattle.net_csv.proofs.reading.read_text.Goals as goal
 
 pub rows-init : goal.rows-init
@@ -27,7 +27,10 @@ returns-then-branch c =
     let next : c.rows.records ≡ fields_of c.read.new.row ∷ c.read.new.self = rw found at c.in_ok-read.ensures.next in
     let ended : c.in_ok-take.field-0 ≡ true = search rules in
     let taken = rw ended at c.in_ok-take.ensures in
-    rw taken.2 (so_far-end c.args.records.now c.read.new.self c.rows.place _ _ (fields_of c.read.new.row) (rw next at c.rows.invariant) refl taken.0 taken.1 (let few = c.requires in omega arith))
+    rw taken.2 (
+      so_far-end c.args.records.now c.read.new.self c.rows.place _ _ (fields_of c.read.new.row) (rw next at c.rows.invariant) refl taken.0 taken.1,
+      so_far-ready c.args.records.now c.rows.records c.rows.place _ c.rows.invariant (let few = c.requires in omega arith),
+    )
 
 pub rows-preserved : goal.rows-preserved
 rows-preserved c =

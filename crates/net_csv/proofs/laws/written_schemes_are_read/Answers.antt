@@ -1,0 +1,8 @@
+use Rattle.net_csv.proofs.Written.{written-read, written-scheme}
+use Rattle.net_csv.proofs.laws.written_schemes_are_read.Goals as goal
+
+pub returns-clause-whole : goal.returns-clause-whole
+returns-clause-whole c = written-read
+
+pub returns-clause-same : goal.returns-clause-same
+returns-clause-same c = written-scheme

@@ -1,0 +1,91 @@
+//! The texts of amounts.
+
+ghost use Rattle.std.specs.Prelude.{◌≡◌, ◌<◌, ◌^◌, ◌++◌, true, OnOk, OnErr};
+ghost use Rattle.np_frac.specs.Amount.{is_amount, is_short, is_decimal};
+ghost use Rattle.net_csv.specs.AmountText.{minus_sign, billionths, decimal_form, amount_text};
+
+use itoa::Buffer;
+use np_frac::{Frac, Memory, write_frac};
+
+const BILLION: u128 = 1_000_000_000;
+
+// Room for a decimal form: the sign, the point, and two numbers of at most 40 bytes, as `itoa` prints them.
+const LONGEST: usize = 82;
+
+// Whether the printed form has at most 18 digits above its stroke and at most 19 below it.
+fn is_short(value: Frac) -> bool
+    ensures { result ≡ is_short value }
+{
+    value.num().unsigned_abs() < 1_000_000_000_000_000_000
+        && value.den() < 10_000_000_000_000_000_000
+}
+
+// The sign of a text, which also a whole part of 0 needs.
+fn minus_sign(value: Frac) -> &'static [u8]
+    ensures { result.now ≡ minus_sign value.num }
+{
+    if value.num() < 0 { b"-" } else { b"" }
+}
+
+// The size in billionths.
+fn billionths(value: Frac) -> u128
+    requires { is_decimal value ≡ true }
+    ensures value { result ≡ billionths value }
+    ensures few { result < 10 ^ 27 }
+{
+    value.num().unsigned_abs() * (BILLION / value.den().unsigned_abs())
+}
+
+// Appends the decimal form. After `Memory` the text is as it was.
+fn write_decimals(value: Frac, out: &mut Vec<u8>) -> Result<(), Memory>
+    requires { is_decimal value ≡ true }
+    ensures ok { OnOk result (out.new.items ≡ out.old.items ++ decimal_form value) }
+    ensures err { OnErr result (out.new.items ≡ out.old.items) }
+{
+    out.reserve(LONGEST)?;
+    let size = billionths(value);
+    let mut buffer = Buffer::new();
+    out.extend_from_slice(minus_sign(value)).unwrap();
+    out.extend_from_slice(buffer.format(size / BILLION).as_bytes())
+        .unwrap();
+    out.extend_from_slice(b".").unwrap();
+    let ten = buffer.format(BILLION + size % BILLION).as_bytes();
+    out.extend_from_slice(&ten[1..]).unwrap();
+    Ok(())
+}
+
+/// Appends the text of an amount: its printed form where that is the text of an amount, and else its whole part, a
+/// point and nine digits. After [`Memory`] the text is as it was.
+pub(crate) fn write_amount(value: Frac, out: &mut Vec<u8>) -> Result<(), Memory>
+    requires { is_amount value ≡ true }
+    ensures ok { OnOk result (out.new.items ≡ out.old.items ++ amount_text value) }
+    ensures err { OnErr result (out.new.items ≡ out.old.items) }
+{
+    if is_short(value) {
+        return write_frac(value, out);
+    }
+    write_decimals(value, out)
+}
+
+#[cfg(test)]
+mod tests {
+    use super::*;
+    use np_frac::read_amount;
+    use std::test::Fail;
+
+    #[test]
+    fn written(rt: HostRuntime) -> Result<(), Fail> {
+        let rows =
+            "0 0\n12.50 25/2\n-7/21 -1/3\n1/9999999999999999999 1/9999999999999999999\n0.000000001 1/1000000000\n123456789012345678.123456789 123456789012345678.123456789\n-999999999999999999.5 -999999999999999999.500000000\n1000000000.000000001 1000000000.000000001";
+        for row in rows.lines() {
+            let (given, text) = row.split_once(' ').ok_or("no row")?;
+            let value = read_amount(given.as_bytes()).ok_or("no amount")?;
+            let mut out = Vec::from_slice(rt.alloc(), b"x,")?;
+            write_amount(value, &mut out)?;
+            assert!(rt; &out.as_slice()[..2] == b"x,".as_slice());
+            assert!(rt; &out.as_slice()[2..] == text.as_bytes());
+            assert!(rt; read_amount(text.as_bytes()) == Some(value));
+        }
+        Ok(())
+    }
+}
