@@ -1,8 +1,7 @@
 -- From the two texts of an input to the whole.
-use Rattle.std.specs.Prelude.{◌≡◌, ◌≢◌, ℕ, ◌+◌, ◌*◌, ◌==◌, ◌&&◌, not, true, false, Bool, Ok, Err, List, [], ◌∷◌, length, drop, map}
+use Rattle.std.specs.Prelude.{◌≡◌, ℕ, ◌+◌, ◌==◌, ◌&&◌, not, true, false, Bool, Ok, Err, List, [], ◌∷◌, None, length, drop, MatchBool, MatchResult, Result}
 use Rattle.std.specs.List.{All, list_all}
-use Rattle.std.proofs.Common.{refl, sym, ap, subst, ◌∙◌, inl, inr, arith}
-use Rattle.std.proofs.lemmas.Bool.{cases_Bool}
+use Rattle.std.proofs.Common.{refl, sym, ap, subst, ◌∙◌, arith}
 use Rattle.std.proofs.lemmas.Bool.Decides.{nat_tests}
 use Rattle.std.proofs.lemmas.List.{length-map, drop-drop}
 use Rattle.std.proofs.lemmas.List.Elements.{All-nil, All-cons, All-head, All-tail}
@@ -20,8 +19,9 @@ use Rattle.net_csv.specs.Reading.{ReadsScheme}
 use Rattle.net_csv.specs.declared.refused.Refused.{Refused}
 use Rattle.net_csv.specs.declared.refused.Refused.TheVariants as refused
 use Rattle.net_csv.specs.declared.refused.Tail.TheVariants as tail
+use Rattle.netplan_top.specs.Split.{body_of}
 use Rattle.netplan_top.specs.PlanForm.{IsPlanText, IsPlanOf}
-use Rattle.netplan_top.specs.Reads.{HasNetwork, Reads, IsStopOf, StopsFor, flow_names}
+use Rattle.netplan_top.specs.Reads.{HasNetwork, IsStopOf, StopsFor, flow_names}
 use Rattle.netplan_top.specs.InputRead.{IsInputRead, IsPlanBehind, is_plain_flow}
 use Rattle.netplan_top.specs.Stops.{stop_of}
 use Rattle.netplan_top.specs.declared.stop.Stop.{Stop}
@@ -41,15 +41,15 @@ not-true : (b : Bool) → not b ≡ true → b ≡ false
 not-true true h = absurd (cc h)
 not-true false h = refl
 
-pub plain-flow : (f : Flow) → is_plain_flow f ≡ true → IsPlainFlow f
+plain-flow : (f : Flow) → is_plain_flow f ≡ true → IsPlainFlow f
 plain-flow f h =
     let both = and-both (not (is_hold f.kind)) (length f.bands == 0) h in
     record { no_hold = not-true (is_hold f.kind) both.0; no_band = empty-from f.bands both.1 }
 
-pub is-plain-flow : (f : Flow) → IsPlainFlow f → is_plain_flow f ≡ true
+is-plain-flow : (f : Flow) → IsPlainFlow f → is_plain_flow f ≡ true
 is-plain-flow f h = rw (h.no_hold, h.no_band) refl
 
-pub plain-flows : (fs : List Flow) → list_all is_plain_flow fs ≡ true → All IsPlainFlow fs
+plain-flows : (fs : List Flow) → list_all is_plain_flow fs ≡ true → All IsPlainFlow fs
 plain-flows [] h = All-nil IsPlainFlow
 plain-flows (f ∷ fs) h =
     let both = and-both (is_plain_flow f) (list_all is_plain_flow fs) h in
@@ -59,8 +59,9 @@ are-plain : (fs : List Flow) → All IsPlainFlow fs → list_all is_plain_flow f
 are-plain [] h = refl
 are-plain (f ∷ fs) h = rw (is-plain-flow f (All-head IsPlainFlow f fs h), are-plain fs (All-tail IsPlainFlow f fs h)) refl
 
-pub not-plain : (s : Scheme) → list_all is_plain_flow s.flows ≡ false → ¬ (IsPlain s)
-not-plain s f = λ h. cc (f, are-plain s.flows h.flows)
+pub plain-decides : (s : Scheme) (b : Bool) → s.periods ≡ 1 → b ≡ list_all is_plain_flow s.flows → MatchBool b (IsPlain s) (¬ (IsPlain s))
+plain-decides s true one e = record { one_period = one; flows = plain-flows s.flows (sym e) }
+plain-decides s false one e = λ h. cc (e, are-plain s.flows h.flows)
 
 -- ---- the plan fits
 
@@ -83,6 +84,17 @@ plan_fits scheme plan claims plain gives law =
     let supplies : length scheme.supply ≡ length scheme.nodes = scheme.valid.one_each ∙ rw one (omega arith) in
     let arcs : length (staged scheme) ≡ length (flow_names scheme.flows) = law scheme plain ∙ sym (length-map scheme.flows (λ (f : Flow). f.name)) in
     subst (λ (v : Verdict). FitsAs v scheme plan) (sym gives.verdict) (record { amount = gives.priced; flows = flows ∙ sym arcs; prices = prices ∙ sym supplies; log = empty_log plan.log gives.turned gives.entries })
+
+-- the plan behind so many records, by the tables of its names
+pub plan-behind : (bytes : List ℕ) (scheme : Scheme) (count : ℕ) (nodes arcs : List (List ℕ)) (left : List (List (List ℕ))) (r : Result Plan Stop)
+    → nodes ≡ scheme.nodes → arcs ≡ flow_names scheme.flows → left ≡ drop count (records_of bytes)
+    → MatchResult r (λ plan. IsPlanText nodes arcs left × IsPlanOf nodes arcs (body_of left) plan) (λ why. StopsFor why (¬ (IsPlanText nodes arcs left)))
+    → MatchResult r (λ plan. IsPlanBehind bytes scheme count plan)
+    (λ why. StopsFor why (¬ (IsPlanText scheme.nodes (flow_names scheme.flows) (drop count (records_of bytes)))))
+plan-behind bytes scheme count nodes arcs left (Ok plan) n a l h = let k = rw (n, a, l) at h in record { text = k.0; plan_is = k.1 }
+plan-behind bytes scheme count nodes arcs left (Err (stop.Fault place code)) n a l h = h
+plan-behind bytes scheme count nodes arcs left (Err stop.Outside) n a l h = rw (n, a, l) at h
+plan-behind bytes scheme count nodes arcs left (Err stop.Memory) n a l h = h
 
 -- ---- the whole input
 
@@ -109,14 +121,14 @@ stop-network bytes (refused.Fault place code) h = h
 stop-network bytes refused.Memory h = tt
 
 pub stop-scheme : (bytes : List ℕ) (scheme : Scheme) (count : ℕ) → ReadsScheme tail.Plan (records_of bytes) (Ok (scheme, count)) → ¬ (IsPlain scheme) → IsStopOf stop.Outside bytes
-stop-scheme bytes scheme count h no = record { scheme = scheme; rest = drop count (records_of bytes); network = has-network bytes scheme count h; outside = λ taken. no taken.plain }
+stop-scheme bytes scheme count h other = record { scheme = scheme; rest = drop count (records_of bytes); network = has-network bytes scheme count h; outside = λ taken. other taken.plain }
 
 pub stop-plan : (bytes : List ℕ) (scheme : Scheme) (count : ℕ) (why : Stop) → ReadsScheme tail.Plan (records_of bytes) (Ok (scheme, count))
     → StopsFor why (¬ (IsPlanText scheme.nodes (flow_names scheme.flows) (drop count (records_of bytes)))) → IsStopOf why bytes
-stop-plan bytes scheme count (stop.Fault place code) h no = absurd no
-stop-plan bytes scheme count stop.Outside h no =
-    record { scheme = scheme; rest = drop count (records_of bytes); network = has-network bytes scheme count h; outside = λ taken. no taken.plan }
-stop-plan bytes scheme count stop.Memory h no = tt
+stop-plan bytes scheme count (stop.Fault place code) h other = absurd other
+stop-plan bytes scheme count stop.Outside h other =
+    record { scheme = scheme; rest = drop count (records_of bytes); network = has-network bytes scheme count h; outside = λ taken. other taken.plan }
+stop-plan bytes scheme count stop.Memory h other = tt
 
 -- ---- records that are passed over
 
