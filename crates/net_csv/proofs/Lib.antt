@@ -24,3 +24,4 @@ mod WrittenNodes
 mod Written
 mod OneScheme
 mod WrittenTexts
+mod SmallScheme

@@ -1,9 +1,9 @@
 -- The text of a scheme is read, and it is the text of that scheme.
 use Rattle.std.specs.Prelude.{◌≡◌, ℕ, ◌+◌, ◌*◌, ◌<◌, ◌≤◌, nat_lt, true, Ok, List, [], ◌∷◌, ◌++◌, length, map, get_or, codes, decimal}
 use Rattle.std.specs.List.{AllByRecursion, filter_map, flat_map, enumerate_from}
-use Rattle.std.proofs.Common.{refl, sym, ap, arith}
+use Rattle.std.proofs.Common.{refl, sym, ap, arith, subst, append_assoc}
 use Rattle.std.proofs.lemmas.Bool.Decides.{nat_tests}
-use Rattle.std.proofs.lemmas.List.{length-append}
+use Rattle.std.proofs.lemmas.List.{append-nil, length-append}
 use Rattle.std.proofs.lemmas.List.Elements.{recursion_from_All}
 use Rattle.std.proofs.lemmas.List.FromFn.{fill_by_all}
 use Rattle.np_frac.specs.Ratio.{Ratio, zero_ratio}
@@ -19,7 +19,7 @@ use Rattle.net_csv.specs.Grammar.{IsSchemeOf, read_records, periods_in, body_of,
 use Rattle.net_csv.specs.Tables.{Tables, tables_of, no_tables}
 use Rattle.net_csv.specs.Reading.{IsHeadRead, IsTextRead}
 use Rattle.net_csv.specs.Writing.{node_row, supply_row, flow_rows, body_rows, rows_of}
-use Rattle.net_csv.proofs.SoFar.{so_far-head, so_far-end}
+use Rattle.net_csv.proofs.SoFar.{IsSoFar, so_far-head, so_far-end}
 use Rattle.net_csv.proofs.Tails.{told-plan, told-nothing}
 use Rattle.net_csv.proofs.Runs.{Runs, runs-append, runs-so_far}
 use Rattle.net_csv.proofs.WrittenFields.{number-decimal, decimal-period}
@@ -71,15 +71,24 @@ head-read periods left some few =
       few = few;
     }
 
-text-read : (s : Scheme) → IsTextRead (rows_of s) [] (flow_tables s.periods s.nodes (gifts s.nodes s.supply) s.flows) (length (rows_of s))
-text-read s =
+-- the tables of the whole text
+abbrev written_tables : Scheme → Tables
+written_tables s = flow_tables s.periods s.nodes (gifts s.nodes s.supply) s.flows
+
+followed-text : (s : Scheme) (after : List (List (List ℕ))) → IsTextRead (rows_of s ++ after) after (written_tables s) (length (rows_of s))
+followed-text s after =
     let v = s.valid in
     let body = body_rows s in
     let end = (codes "end" ∷ []) ∷ [] in
-    let start = so_far-head (rows_of s) (body ++ end) s.periods (no_tables s.periods) (head-read s.periods (body ++ end) v.some_period v.few_periods) refl in
-    let last = runs-so_far body (rows_of s) end 2 _ _ start (runs-body s) in
+    let rows = rows_of s ++ after in
+    let start = so_far-head rows (body ++ end ++ after) s.periods (no_tables s.periods) (head-read s.periods (body ++ end ++ after) v.some_period v.few_periods) refl in
+    let apart = subst (λ (left : List (List (List ℕ))). IsSoFar rows left 2 (no_tables s.periods)) (append_assoc body end after) start in
+    let last = runs-so_far body rows ((codes "end" ∷ []) ∷ after) 2 _ _ apart (runs-body s) in
     let size = length-append body end in
-    so_far-end (rows_of s) [] (2 + length body) (length (rows_of s)) _ (codes "end" ∷ []) last (omega arith) refl refl
+    so_far-end rows after (2 + length body) (length (rows_of s)) _ (codes "end" ∷ []) last (omega arith) refl refl
+
+text-read : (s : Scheme) → IsTextRead (rows_of s) [] (written_tables s) (length (rows_of s))
+text-read s = subst (λ (rows : List (List (List ℕ))). IsTextRead rows [] (written_tables s) (length (rows_of s))) (append-nil (rows_of s)) (followed-text s [])
 
 pub written-read : (t : Tail) (s : Scheme) → read_records t (rows_of s) ≡ Ok (length (rows_of s))
 written-read tail.Nothing s = told-nothing (rows_of s) _ (length (rows_of s)) (text-read s)
@@ -95,8 +104,8 @@ parts-of : (periods : ℕ) (body : List (List (List ℕ))) (t : Tables) → t �
 unfolding tables_of
 parts-of periods body t e = (ap (λ (x : Tables). x.periods) e, ap (λ (x : Tables). x.nodes) e, ap (λ (x : Tables). x.supplies) e, ap (λ (x : Tables). x.flows) e)
 
-scheme-of : (rows : List (List (List ℕ))) (s : Scheme) (count : ℕ) → IsTextRead rows [] (flow_tables s.periods s.nodes (gifts s.nodes s.supply) s.flows) count → IsSchemeOf rows s
-scheme-of rows s count read =
+scheme-of : (rows after : List (List (List ℕ))) (s : Scheme) (count : ℕ) → IsTextRead rows after (written_tables s) count → IsSchemeOf rows s
+scheme-of rows after s count read =
     let parts = parts-of (periods_in rows) (body_of rows) _ read.tables in
     let size : length s.supply ≡ periods_in rows * length (node_names (body_of rows)) = rw (sym parts.0, sym parts.1) s.valid.one_each in
     record {
@@ -107,4 +116,10 @@ scheme-of rows s count read =
     }
 
 pub written-scheme : (s : Scheme) → IsSchemeOf (rows_of s) s
-written-scheme s = scheme-of (rows_of s) s (length (rows_of s)) (text-read s)
+written-scheme s = scheme-of (rows_of s) [] s (length (rows_of s)) (text-read s)
+
+-- with other records behind it
+pub followed-read : (s : Scheme) (after : List (List (List ℕ))) → (read_records tail.Plan (rows_of s ++ after) ≡ Ok (length (rows_of s))) × IsSchemeOf (rows_of s ++ after) s
+followed-read s after =
+    let read = followed-text s after in
+    (told-plan (rows_of s ++ after) after _ (length (rows_of s)) read, scheme-of (rows_of s ++ after) after s (length (rows_of s)) read)

@@ -1,5 +1,5 @@
 -- The records of a flow and of its bands are taken, and add the whole flow.
-use Rattle.std.specs.Prelude.{◌≡◌, ℕ, suc, ◌+◌, ◌*◌, ◌-◌, ◌≤◌, ◌&&◌, nat_le, Bool, true, false, Some, None, List, [], ◌∷◌, ◌++◌, length, map, slice_get}
+use Rattle.std.specs.Prelude.{◌≡◌, ℕ, suc, ◌+◌, ◌*◌, ◌-◌, ◌≤◌, ◌&&◌, nat_le, true, Some, None, List, [], ◌∷◌, ◌++◌, length, map, slice_get}
 use Rattle.std.specs.List.{IsDistinct, AllByRecursion, list_all, flat_map}
 use Rattle.std.specs.Option.{option_map_or}
 use Rattle.std.specs.Str.{bytes_eq}
@@ -23,7 +23,7 @@ use Rattle.net_csv.specs.Writing.{piece_row, flow_rows}
 use Rattle.net_csv.proofs.AmountTexts.{amount_text-value}
 use Rattle.net_csv.proofs.WrittenNames.{place-new, place-last}
 use Rattle.net_csv.proofs.WrittenFields.{amount-fine, upper-fine, upper-value, new-fine, used-fine, wide, not_below}
-use Rattle.net_csv.proofs.WrittenFlows.{bare, flow-step, amounts-each}
+use Rattle.net_csv.proofs.WrittenFlows.{and-true, bare, flow-step, amounts-each}
 use Rattle.net_csv.proofs.Runs.{IsStep, Runs, runs-step, runs-append}
 
 abbrev pub with_flows : Tables → List Flow → ℕ → Tables
@@ -41,10 +41,6 @@ last-pushed flow band =
 
 pub room : (arcs : ℕ) → arcs ≤ 100000 → arcs_fault arcs ≡ None
 room arcs h = let few : nat_le arcs 100000 ≡ true = grind (arith, nat_tests) in rw few refl
-
-and-true : (a b : Bool) → (a && b) ≡ true → (a ≡ true) × (b ≡ true)
-and-true true b h = (refl, h)
-and-true false b h = absurd (cc h)
 
 -- ---- a band
 

@@ -134,7 +134,7 @@ row-of nodes names (Feed node) name l u c h =
 
 -- ---- a flow of a scheme
 
-and-true : (a b : Bool) → (a && b) ≡ true → (a ≡ true) × (b ≡ true)
+pub and-true : (a b : Bool) → (a && b) ≡ true → (a ≡ true) × (b ≡ true)
 and-true true b h = (refl, h)
 and-true false b h = absurd (cc h)
 

@@ -1,16 +1,22 @@
 //! Laws of network texts, each as the clause of a function that does nothing.
 
-ghost use Rattle.std.specs.Prelude.{◌≡◌, ℕ, List, Ok, length};
+ghost use Rattle.std.specs.Prelude.{◌≡◌, ◌++◌, ℕ, List, Ok, length};
 ghost use Rattle.np_model.specs.declared.scheme.Scheme.{Scheme};
 ghost use Rattle.net_csv.specs.declared.refused.Tail.{Tail};
+ghost use Rattle.net_csv.specs.declared.refused.Tail.TheVariants as tail;
 ghost use Rattle.net_csv.specs.Grammar.{IsSchemeOf, read_records};
 ghost use Rattle.net_csv.specs.Writing.{rows_of};
 
-/// The records that are written for a scheme are read up to their last one, whatever may stand behind them, and they
-/// are the records of that scheme.
+/// The records that are written for a scheme are read up to their last one, and they are the records of that scheme.
 pub fn written_schemes_are_read()
+    // Nothing stands behind them.
     ensures whole { (tail : Tail) (scheme : Scheme) → read_records tail (rows_of scheme) ≡ Ok (length (rows_of scheme)) }
     ensures same { (scheme : Scheme) → IsSchemeOf (rows_of scheme) scheme }
+
+    // With the records of a plan, or any others, behind them.
+    ensures followed { (scheme : Scheme) (after : List (List (List ℕ)))
+        → (read_records tail.Plan (rows_of scheme ++ after) ≡ Ok (length (rows_of scheme)))
+        × IsSchemeOf (rows_of scheme ++ after) scheme }
 {}
 
 /// Records are those of at most one scheme.

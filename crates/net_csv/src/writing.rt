@@ -229,17 +229,7 @@ fn push_flow(alloc: Global, text: &mut Text, nodes: &Names, flow: &Flow) -> Resu
     }
 }
 
-// Writes the record of a band.
-fn push_band(alloc: Global, text: &mut Text, name: &[u8], band: &Band) -> Result<(), Memory>
-    requires { (is_amount_or_infinite band.now.width && is_amount band.now.slope) ≡ true }
-    ensures { OnOk result (text.new.bytes ≡ text.old.bytes ++ record_text (piece_row name.now band.now)) }
-{
-    let width = upper_bytes(alloc, &band.width)?;
-    let slope = amount_bytes(alloc, band.slope)?;
-    push_piece(text, name, width.as_slice(), slope.as_slice())
-}
-
-// Writes the record of a piece.
+// Writes the record of a piece, which is a band of the flow that it names.
 fn push_piece<'a>(
     text: &mut Text,
     name: &'a [u8],
@@ -249,6 +239,16 @@ fn push_piece<'a>(
     ensures { OnOk result (text.new.bytes ≡ text.old.bytes ++ record_text (codes "piece" ∷ name.now ∷ width.now ∷ slope.now ∷ [])) }
 {
     text.push(&[b"piece".as_slice(), name, width, slope])
+}
+
+// Writes the record of a band.
+fn push_band(alloc: Global, text: &mut Text, name: &[u8], band: &Band) -> Result<(), Memory>
+    requires { (is_amount_or_infinite band.now.width && is_amount band.now.slope) ≡ true }
+    ensures { OnOk result (text.new.bytes ≡ text.old.bytes ++ record_text (piece_row name.now band.now)) }
+{
+    let width = upper_bytes(alloc, &band.width)?;
+    let slope = amount_bytes(alloc, band.slope)?;
+    push_piece(text, name, width.as_slice(), slope.as_slice())
 }
 
 // Writes the records of the bands of a flow.
@@ -284,11 +284,11 @@ fn push_flows(alloc: Global, text: &mut Text, scheme: &Scheme) -> Result<(), Mem
 /// The network text of a scheme: its periods, its nodes, the supplies that are not 0, and its flows with their bands,
 /// each in order.
 ///
-/// Read again, the text is that of this scheme. `Memory` comes where memory ran out.
+/// Read again, the text is that of this scheme and of no other. `Memory` comes where memory ran out.
 pub fn scheme_text(alloc: Global, scheme: &Scheme) -> Result<Vec<u8>, Memory>
     ensures text { IfOk result (λ bytes. bytes.items ≡ records_text (rows_of scheme.now)) }
 
-    // Whatever may stand behind it, the text is read whole, and gives the scheme.
+    // Read with either `Tail`, the text has no fault and is read to its end, and it is that of the scheme.
     ensures read_back { IfOk result (λ bytes. (tail : TheTail)
         → (read_records tail (records_of bytes.items) ≡ Ok (length (rows_of scheme.now)))
         × IsSchemeOf (records_of bytes.items) scheme.now) }
@@ -301,3 +301,6 @@ pub fn scheme_text(alloc: Global, scheme: &Scheme) -> Result<Vec<u8>, Memory>
     text.push(&[b"end".as_slice()])?;
     text.into_bytes()
 }
+
+#[cfg(test)]
+mod tests;
