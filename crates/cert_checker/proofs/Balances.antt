@@ -1,21 +1,28 @@
 -- Running balances of all nodes, as one arc after the other is added.
-use Rattle.std.specs.Prelude.{◌≡◌, ◌≢◌, ℕ, ◌+◌, ◌<◌, not, suc, Result, Ok, Err, List, [], ◌∷◌, length}
-use Rattle.std.specs.List.{zip, enumerate_from}
+use Rattle.std.specs.Prelude.{◌≡◌, ◌≢◌, ℕ, ◌+◌, ◌<◌, ◌≤◌, not, suc, Option, Some, None, Result, Ok, List, [], ◌∷◌, length}
+use Rattle.std.specs.List.{fold, slice_get, zip, enumerate_from}
+use Rattle.std.proofs.lemmas.List.{take_all}
 use Rattle.std.proofs.lemmas.List.FromFn.{get_or-enumerate_from, length-enumerate_from}
 use Rattle.std.proofs.lemmas.Slice.Zip.{length-zip, get_or-zip}
-use Rattle.std.proofs.Common.{refl, sym, ◌∙◌, ap, ap₂, inl, inr, arith, get_or, set}
+use Rattle.std.proofs.Common.{refl, sym, ◌∙◌, ap, ap₂, inl, inr, arith, get_or, set, take}
 use Rattle.std.proofs.lemmas.Bool.{cases_eq}
 use Rattle.std.proofs.lemmas.Bool.Decides.{nat_tests}
 use Rattle.std.proofs.lemmas.Grind.{common_steps}
-use Rattle.np_frac.specs.Ratio.{Ratio}
+use Rattle.np_frac.specs.Ratio.{Ratio, zero_ratio}
 use Rattle.np_frac.specs.Exact.{plus_of, minus_of, times_of}
 use Rattle.np_frac.specs.declared.frac.Past.{Past}
 use Rattle.np_frac.specs.Order.{ratio_eq}
+use Rattle.np_model.specs.declared.arc.Ends.{Ends}
 use Rattle.np_model.specs.declared.arc.Ends.TheVariants.{Link}
-use Rattle.np_model.specs.declared.plan.CheckRow.TheVariants.{C1}
+use Rattle.np_model.specs.declared.scheme.Flow.{Flow}
+use Rattle.np_model.specs.declared.plan.CheckRow.{CheckRow}
+use Rattle.cert_checker.specs.declared.answer.Clause.{Clause}
 use Rattle.np_model.specs.Stages.{Stage}
-use Rattle.cert_checker.specs.Sums.{sum_clause}
-use Rattle.cert_checker.specs.Walk.{◌▷◌, balance_step, balance_of, balance_clause, first_refusal, tested, refused_if, reject_node}
+use Rattle.cert_checker.specs.Sums.{sum_clause, arcs_balance}
+use Rattle.cert_checker.specs.Arcs.{stage_for, as_stage, stages_of}
+use Rattle.cert_checker.specs.declared.staged.StagedArc.{StagedArc}
+use Rattle.cert_checker.proofs.Pairs.{bind_same, bind_ok, fold_more}
+use Rattle.cert_checker.specs.Walk.{◌▷◌, add_supply, balance_step, balance_of, node_clause, first_refusal, tested, refused_if, reject_node}
 
 abbrev pub Running : Type 0
 Running = Result Ratio Past
@@ -23,14 +30,6 @@ Running = Result Ratio Past
 -- an element that is there, whatever stands for one that is not
 pub element_is : {A : Type 0} (xs : List A) (i : ℕ) (r d : A) → i < length xs → r ≡ get_or xs i r → get_or xs i d ≡ r
 element_is xs i r d h e = grind (arith, common_steps, e)
-
-bind_same : (r : Running) (f g : Ratio → Running) → ((y : Ratio) → f y ≡ g y) → r ▷ f ≡ r ▷ g
-bind_same (Ok y) f g h = h y
-bind_same (Err p) f g h = refl
-
-bind_ok : (r : Running) (f : Ratio → Running) → ((y : Ratio) → f y ≡ Ok y) → r ▷ f ≡ r
-bind_ok (Ok y) f h = h y
-bind_ok (Err p) f h = refl
 
 at_tail : (v from to : ℕ) (gain x y : Ratio) → v ≡ from → balance_step v (Link from to gain) x y ≡ plus_of y x
 at_tail v from to gain x y e = grind (arith, nat_tests)
@@ -80,16 +79,58 @@ sum_at supply sums v b s e h at_b at_s =
     ∙ ap₂ {A = ℕ} {B = Ratio × Running} {C = ℕ × (Ratio × Running)} (λ n z. (n, z)) (omega arith)
     (get_or-zip supply sums v (b, s) h (omega arith) ∙ ap₂ {A = Ratio} {B = Running} {C = Ratio × Running} (λ x y. (x, y)) (sym at_b) (sym at_s))
 
-sums_as : (k : ℕ) (from : ℕ) (supply : List Ratio) (sums : List Running) (f : ℕ → Running) → length sums ≡ length supply → ((j : ℕ) (d : Running) → j < length sums → get_or sums j d ≡ f (from + j))
-    → first_refusal (sum_clause k) (enumerate_from from (zip supply sums)) ≡ first_refusal (λ (v, b). tested C1 (f v) (λ found. refused_if (not (ratio_eq found b)) (reject_node k v))) (enumerate_from from supply)
-sums_as k from [] sums f e h = refl
-sums_as k from (b ∷ supply) [] f e h = absurd (omega arith)
-sums_as k from (b ∷ supply) (s ∷ sums) f e h =
+sums_as : (row : CheckRow) (clause : Clause) (k : ℕ) (from : ℕ) (supply : List Ratio) (sums : List Running) (f : ℕ → Running) → length sums ≡ length supply → ((j : ℕ) (d : Running) → j < length sums → get_or sums j d ≡ f (from + j))
+    → first_refusal (sum_clause row clause k) (enumerate_from from (zip supply sums)) ≡ first_refusal (λ (v, b). tested row (f v) (λ found. refused_if (not (ratio_eq found b)) (reject_node clause k v))) (enumerate_from from supply)
+sums_as row clause k from [] sums f e h = refl
+sums_as row clause k from (b ∷ supply) [] f e h = absurd (omega arith)
+sums_as row clause k from (b ∷ supply) (s ∷ sums) f e h =
     let here : s ≡ f from = h 0 s (omega arith) ∙ ap f (omega arith) in
-    let rest = sums_as k (from + 1) supply sums f (omega arith) (λ j d below. h (suc j) d (omega arith) ∙ ap f (omega arith)) in
+    let rest = sums_as row clause k (from + 1) supply sums f (omega arith) (λ j d below. h (suc j) d (omega arith) ∙ ap f (omega arith)) in
     rw (here, rest) refl
 
 -- the clauses of the known sums are those of the balances
-pub sums_are : (k : ℕ) (supply : List Ratio) (sums : List Running) (pairs : List (Stage × Ratio)) → length sums ≡ length supply → ((v : ℕ) (d : Running) → v < length sums → get_or sums v d ≡ balance_of pairs v)
-    → first_refusal (sum_clause k) (enumerate_from 0 (zip supply sums)) ≡ first_refusal (balance_clause k pairs) (enumerate_from 0 supply)
-sums_are k supply sums pairs e h = sums_as k 0 supply sums (balance_of pairs) e (λ j d below. h j d below ∙ ap (balance_of pairs) (omega arith))
+pub sums_are : (row : CheckRow) (clause : Clause) (k : ℕ) (supply : List Ratio) (sums : List Running) (pairs : List (Stage × Ratio)) → length sums ≡ length supply → ((v : ℕ) (d : Running) → v < length sums → get_or sums v d ≡ balance_of pairs v)
+    → first_refusal (sum_clause row clause k) (enumerate_from 0 (zip supply sums)) ≡ first_refusal (node_clause row clause k pairs) (enumerate_from 0 supply)
+sums_are row clause k supply sums pairs e h = sums_as row clause k 0 supply sums (balance_of pairs) e (λ j d below. h j d below ∙ ap (balance_of pairs) (omega arith))
+
+-- ---- over the staged arcs that the checker keeps
+
+ends_for : (arc : StagedArc) (o : Option Flow) → (stage_for arc o).ends ≡ arc.ends
+ends_for arc None = refl
+ends_for arc (Some f) = refl
+
+pub ends_are : (flows : List Flow) (arc : StagedArc) → (as_stage flows arc).ends ≡ arc.ends
+ends_are flows arc = ends_for arc (slice_get flows arc.flow)
+
+arcs_from : (flows : List Flow) (v : ℕ) (r : Running) (arcs : List StagedArc) (xs : List Ratio)
+    → fold (λ running (arc, x). running ▷ balance_step v arc.ends x) r (zip arcs xs) ≡ fold (λ running (s, x). running ▷ balance_step v s.ends x) r (zip (stages_of flows arcs) xs)
+arcs_from flows v r [] xs = refl
+arcs_from flows v r (arc ∷ arcs) [] = refl
+arcs_from flows v r (arc ∷ arcs) (x ∷ xs) =
+    arcs_from flows v (r ▷ balance_step v arc.ends x) arcs xs
+    ∙ ap (λ (a : Ends). fold (λ running (s, y). running ▷ balance_step v s.ends y) (r ▷ balance_step v a x) (zip (stages_of flows arcs) xs)) (sym (ends_are flows arc))
+
+pub arcs_are : (flows : List Flow) (arcs : List StagedArc) (xs : List Ratio) (v : ℕ) → arcs_balance (zip arcs xs) v ≡ balance_of (zip (stages_of flows arcs) xs) v
+arcs_are flows arcs xs v = arcs_from flows v (Ok zero_ratio) arcs xs
+
+-- the running balance of a node after one more staged arc
+pub balance_more : (arcs : List StagedArc) (amounts : List Ratio) (i : ℕ) (arc : StagedArc) (x : Ratio) (v : ℕ) (old new : Running) → length amounts ≡ length arcs → i < length arcs
+    → arc ≡ get_or arcs i arc → x ≡ get_or amounts i x → old ≡ arcs_balance (take i (zip arcs amounts)) v → new ≡ old ▷ balance_step v arc.ends x
+    → new ≡ arcs_balance (take (i + 1) (zip arcs amounts)) v
+balance_more arcs amounts i arc x v old new e h at_arc at_x before after =
+    let pair : get_or (zip arcs amounts) i (arc, x) ≡ (arc, x) =
+    get_or-zip arcs amounts i (arc, x) h (omega arith) ∙ ap₂ {A = StagedArc} {B = Ratio} {C = StagedArc × Ratio} (λ a q. (a, q)) (sym at_arc) (sym at_x) in
+    after
+    ∙ ap (λ (r : Running). r ▷ balance_step v arc.ends x) before
+    ∙ sym (fold_more (λ running (a, q). running ▷ balance_step v a.ends q) (Ok zero_ratio) (zip arcs amounts) i (arc, x) (omega (arith, length-zip arcs amounts)) pair)
+
+pub balance_end : (arcs : List StagedArc) (amounts : List Ratio) (i : ℕ) (v : ℕ) → length amounts ≡ length arcs → length arcs ≤ i → arcs_balance (take i (zip arcs amounts)) v ≡ arcs_balance (zip arcs amounts) v
+balance_end arcs amounts i v e h = ap (λ (z : List (StagedArc × Ratio)). arcs_balance z v) (take_all i (zip arcs amounts) (omega (arith, length-zip arcs amounts)))
+
+-- ---- the prices of the nodes, beside their supplies
+
+pub numbered_at : (prices : List Ratio) (v : ℕ) (p : Ratio) → v < length prices → p ≡ get_or prices v p → get_or (enumerate_from 0 prices) v (v, p) ≡ (v, p)
+numbered_at prices v p h e = get_or-enumerate_from 0 prices v (v, p) h ∙ ap₂ {A = ℕ} {B = Ratio} {C = ℕ × Ratio} (λ n q. (n, q)) (omega arith) (sym e)
+
+pub supply_step : (supply : List Ratio) (v : ℕ) (p b running : Ratio) → v < length supply → b ≡ get_or supply v b → times_of p b ▷ plus_of running ≡ add_supply supply (v, p) running
+supply_step supply v p b running h e = ap (λ (q : Ratio). times_of p q ▷ plus_of running) (sym (element_is supply v b zero_ratio h e))

@@ -1,8 +1,8 @@
 -- What the arithmetic of the walk finds is exact.
 use Rattle.std.specs.Prelude.{◌≡◌, ℕ, ◌==◌, Bool, true, false, if◌then◌else◌, Result, Ok, Err, List, [], ◌∷◌, length, map}
-use Rattle.std.specs.List.{fold, zip}
+use Rattle.std.specs.List.{AllByRecursion, fold, zip, enumerate_from}
 use Rattle.std.proofs.Common.{refl, sym, ap, ◌∙◌}
-use Rattle.np_frac.specs.Ratio.{Ratio, zero_ratio, one_ratio, negated, ◌+ᵣ◌, ◌-ᵣ◌, ◌*ᵣ◌, is_below}
+use Rattle.np_frac.specs.Ratio.{Ratio, zero_ratio, one_ratio, negated, ◌+ᵣ◌, ◌-ᵣ◌, ◌*ᵣ◌, total, is_below}
 use Rattle.np_frac.specs.Exact.{plus_of, minus_of, times_of}
 use Rattle.np_frac.specs.declared.frac.Past.{Past}
 use Rattle.np_frac.proofs.Exactness.{plus_exact, minus_exact, times_exact}
@@ -13,9 +13,9 @@ use Rattle.np_model.specs.declared.arc.Ends.TheVariants.{Link, Drain, Feed}
 use Rattle.np_model.specs.declared.arc.Upper.{Upper}
 use Rattle.np_model.specs.declared.arc.Upper.TheVariants.{Finite, Infinite}
 use Rattle.np_model.specs.declared.scheme.Band.{Band}
-use Rattle.np_model.specs.Network.{ReducedByEnds, coefficient, balance, at, reduced}
-use Rattle.np_model.specs.Stages.{Stage, Segment, end_after, segments_beyond, last_end, lesser, amount_in, cost_at, stages_cost, hull}
-use Rattle.cert_checker.specs.Walk.{◌▷◌, balance_step, balance_of, band_end, end_of, price_of, add_segments, add_cost, cost_of}
+use Rattle.np_model.specs.Network.{ReducedByEnds, coefficient, balance, plan_cost, at, bound_of, least_worth, reduced}
+use Rattle.np_model.specs.Stages.{Stage, Segment, end_after, segments_beyond, last_end, last_slope, lesser, amount_in, cost_at, stages_cost, stages_gap, hull}
+use Rattle.cert_checker.specs.Walk.{◌▷◌, balance_step, balance_of, band_end, end_of, price_of, add_segments, add_cost, cost_of, add_supply, add_worth, add_least, gap_of, add_ray_cost, ray_cost_of}
 use Rattle.cert_checker.specs.Plain.{AreNodes}
 
 -- what was found in two steps
@@ -67,7 +67,7 @@ balance_exact stages x v s e =
 
 -- ---- ends
 
-band_exact : (end : Ratio) (width next : Upper) → band_end end width ≡ Ok next → next ≡ end_after end width
+pub band_exact : (end : Ratio) (width next : Upper) → band_end end width ≡ Ok next → next ≡ end_after end width
 band_exact end Infinite next e = cc e
 band_exact end (Finite w) next e =
     let found = found_by (plus_of end w) (λ sum. Ok (Finite sum)) next e in
@@ -126,3 +126,73 @@ cost_step_exact s x r t e =
 pub cost_exact : (stages : List Stage) (x : List Ratio) (s : Ratio) → cost_of (zip stages x) ≡ Ok s → s ≡ stages_cost stages x
 cost_exact stages x s e =
     fold_exact {A = Stage × Ratio} add_cost (λ (st, q). cost_at st q) (λ a r t h. cost_step_exact a.0 a.1 r t h) zero_ratio s (zip stages x) e
+
+-- ---- the cost of a ray
+
+ray_step_exact : (s : Stage) (d r t : Ratio) → add_ray_cost (s, d) r ≡ Ok t → t ≡ r +ᵣ last_slope s.cost s.bands *ᵣ d
+ray_step_exact s d r t e =
+    let product = found_by (times_of (last_slope s.cost s.bands) d) (plus_of r) t e in
+    rw (← times_exact (last_slope s.cost s.bands) d product.0 product.1) (plus_exact r product.0 t product.2)
+
+pub ray_cost_exact : (stages : List Stage) (d : List Ratio) (s : Ratio) → ray_cost_of (zip stages d) ≡ Ok s → s ≡ plan_cost (map hull stages) d
+ray_cost_exact stages d s e =
+    fold_exact {A = Stage × Ratio} add_ray_cost (λ (st, q). last_slope st.cost st.bands *ᵣ q) (λ a r t h. ray_step_exact a.0 a.1 r t h) zero_ratio s (zip stages d) e
+    ∙ sym (total_zip_map (λ (a, q). a.cost *ᵣ q) hull stages d)
+
+-- ---- the gap
+
+supply_step_exact : (supply : List Ratio) (v : ℕ) (p r t : Ratio) → add_supply supply (v, p) r ≡ Ok t → t ≡ r +ᵣ p *ᵣ at supply v
+supply_step_exact supply v p r t e =
+    let product = found_by (times_of p (at supply v)) (plus_of r) t e in
+    rw (← times_exact p (at supply v) product.0 product.1) (plus_exact r product.0 t product.2)
+
+worth_exact : (s : Stage) (r running t : Ratio) → add_worth s r running ≡ Ok t → t ≡ running +ᵣ least_worth r (hull s)
+worth_exact s r running t e = above (is_below zero_ratio r) e
+  where
+    below : (b : Bool) → (if b then (end_of s.upper s.bands ▷ λ end. times_of r (bound_of end) ▷ plus_of running) else Ok running) ≡ Ok t
+        → t ≡ running +ᵣ (if b then r *ᵣ bound_of (last_end s.upper s.bands) else zero_ratio)
+    below true h =
+        let end = found_by (end_of s.upper s.bands) (λ end. times_of r (bound_of end) ▷ plus_of running) t h in
+        let product = found_by (times_of r (bound_of end.0)) (plus_of running) t end.2 in
+        rw (← end_exact s.upper s.bands end.0 end.1, ← times_exact r (bound_of end.0) product.0 product.1) (plus_exact running product.0 t product.2)
+    below false h = rw (+ᵣ-zero running) (cc h)
+
+    above : (b : Bool) → (if b then (times_of r s.lower ▷ plus_of running) else (if is_below r zero_ratio then (end_of s.upper s.bands ▷ λ end. times_of r (bound_of end) ▷ plus_of running) else Ok running)) ≡ Ok t
+        → t ≡ running +ᵣ (if b then r *ᵣ s.lower else (if is_below r zero_ratio then r *ᵣ bound_of (last_end s.upper s.bands) else zero_ratio))
+    above true h =
+        let product = found_by (times_of r s.lower) (plus_of running) t h in
+        rw (← times_exact r s.lower product.0 product.1) (plus_exact running product.0 t product.2)
+    above false h = below (is_below r zero_ratio) h
+
+abbrev worth_at : List Ratio → Stage → Ratio
+worth_at p s = least_worth (reduced p s.ends zero_ratio) (hull s)
+
+least_step_exact : ReducedByEnds → (p : List Ratio) (s : Stage) → AreNodes (length p) s.ends → (r t : Ratio) → add_least p s r ≡ Ok t → t ≡ r +ᵣ worth_at p s
+least_step_exact law p s nodes r t e =
+    let price = found_by (price_of p s.ends zero_ratio) (λ q. add_worth s q r) t e in
+    rw (← price_exact law p s.ends zero_ratio price.0 nodes price.1) (worth_exact s price.0 r t price.2)
+
+-- over staged arcs whose ends are nodes
+least_exact : ReducedByEnds → (p : List Ratio) (stages : List Stage) → AllByRecursion (λ s. AreNodes (length p) s.ends) stages → (r : Result Ratio Past) (s : Ratio) → fold (λ running st. running ▷ add_least p st) r stages ≡ Ok s
+    → (q : Ratio) × (r ≡ Ok q) × (s ≡ q +ᵣ sum (worth_at p) stages)
+least_exact law p [] nodes r s e = (s, e, sym (+ᵣ-zero s))
+least_exact law p (st ∷ stages) nodes r s e =
+    let rest = least_exact law p stages nodes.1 (r ▷ add_least p st) s e in
+    let here = found_by r (add_least p st) rest.0 rest.1 in (
+      here.0,
+      here.1,
+      rest.2 ∙ ap (λ z. z +ᵣ sum (worth_at p) stages) (least_step_exact law p st nodes.0 here.0 rest.0 here.2) ∙ +ᵣ_assoc here.0 (worth_at p st) (sum (worth_at p) stages),
+    )
+
+sum_map : {A B : Type 0} (f : B → Ratio) (h : A → B) (xs : List A) → sum f (map h xs) ≡ sum (λ x. f (h x)) xs
+sum_map f h [] = refl
+sum_map f h (x ∷ xs) = ap (λ z. f (h x) +ᵣ z) (sum_map f h xs)
+
+pub gap_exact : ReducedByEnds → (supply : List Ratio) (stages : List Stage) (p : List Ratio) (s : Ratio) → AllByRecursion (λ st. AreNodes (length p) st.ends) stages → gap_of supply stages p ≡ Ok s → s ≡ stages_gap supply stages p
+gap_exact law supply stages p s nodes e =
+    let arcs = least_exact law p stages nodes (fold (λ running node. running ▷ add_supply supply node) (Ok zero_ratio) (enumerate_from 0 p)) s e in
+    let prices : arcs.0 ≡ total (λ (v, potential). potential *ᵣ at supply v) (enumerate_from 0 p) =
+    fold_exact {A = ℕ × Ratio} (add_supply supply) (λ (v, potential). potential *ᵣ at supply v) (λ a r t h. supply_step_exact supply a.0 a.1 r t h) zero_ratio arcs.0 (enumerate_from 0 p) arcs.1 in
+    arcs.2
+    ∙ ap (λ z. z +ᵣ sum (worth_at p) stages) prices
+    ∙ ap (λ z. total (λ (v, potential). potential *ᵣ at supply v) (enumerate_from 0 p) +ᵣ z) (sym (total_is (λ a. least_worth (reduced p a.ends zero_ratio) a) (map hull stages) ∙ sum_map (λ a. least_worth (reduced p a.ends zero_ratio) a) hull stages))

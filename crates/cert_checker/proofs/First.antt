@@ -42,11 +42,11 @@ pub first_each : {A : Type 0} (f g : A → Option CheckRefusal) (xs : List A) �
 first_each f g [] h = refl
 first_each f g (x ∷ xs) h = rw (h x, first_each f g xs h) refl
 
-accepted_ok : (o : Option CheckRefusal) (u : Unit {0}) (res : Result (Unit {0}) CheckRefusal) → res ≡ goes_on_unless o → res ≡ Ok u → o ≡ None
+pub accepted_ok : (o : Option CheckRefusal) (u : Unit {0}) (res : Result (Unit {0}) CheckRefusal) → res ≡ goes_on_unless o → res ≡ Ok u → o ≡ None
 accepted_ok None u res e f = refl
 accepted_ok (Some r) u res e f = absurd (cc (e, f))
 
-accepted_err : (o : Option CheckRefusal) (r : CheckRefusal) (res : Result (Unit {0}) CheckRefusal) → res ≡ goes_on_unless o → res ≡ Err r → o ≡ Some r
+pub accepted_err : (o : Option CheckRefusal) (r : CheckRefusal) (res : Result (Unit {0}) CheckRefusal) → res ≡ goes_on_unless o → res ≡ Err r → o ≡ Some r
 accepted_err None r res e f = absurd (cc (e, f))
 accepted_err (Some s) r res e f = cc (e, f)
 

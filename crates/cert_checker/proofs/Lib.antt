@@ -1,8 +1,9 @@
+pub mod Arcs
 pub mod Balances
+pub mod Exact
 pub mod First
 pub mod Pairs
-pub mod Exact
-pub mod Staged
+pub mod PlainStages
+pub mod Segments
 pub mod Theorem
 pub mod Whole
-pub mod Signs

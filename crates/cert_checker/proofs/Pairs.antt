@@ -1,92 +1,131 @@
--- The staged arcs of a plain scheme beside the amounts, place by place.
-use Rattle.std.specs.Prelude.{◌≡◌, ℕ, ◌+◌, ◌<◌, false, Result, Ok, Err, List, [], ◌∷◌, length}
-use Rattle.std.specs.List.{All, fold, zip, enumerate_from}
-use Rattle.std.proofs.Common.{refl, sym, ap, ap₂, ◌∙◌, arith, get_or, take, drop}
+-- The staged arcs that the checker keeps, beside the amounts, place by place; and folds whose steps may pass.
+use Rattle.std.specs.Prelude.{◌≡◌, ℕ, ◌+◌, ◌<◌, ◌≤◌, Option, None, Result, Ok, Err, List, [], ◌∷◌, length}
+use Rattle.std.specs.List.{All, fold, zip}
+use Rattle.std.proofs.Common.{refl, sym, ap, ap₂, subst, ◌∙◌, arith, get_or, take, drop}
 use Rattle.std.proofs.lemmas.List.{length-map, get_or-map, take_all, take-append-drop}
 use Rattle.std.proofs.lemmas.List.Sums.{fold-append}
-use Rattle.std.proofs.lemmas.List.FromFn.{get_or-enumerate_from, length-enumerate_from}
+use Rattle.std.proofs.lemmas.Option.{slice_get_read}
 use Rattle.std.proofs.lemmas.Slice.Zip.{length-zip, get_or-zip}
-use Rattle.np_frac.specs.Ratio.{Ratio, zero_ratio}
+use Rattle.np_frac.specs.Ratio.{Ratio}
 use Rattle.np_frac.specs.declared.frac.Past.{Past}
-use Rattle.np_model.specs.declared.arc.Ends.{Ends}
 use Rattle.np_model.specs.declared.scheme.Flow.{Flow}
-use Rattle.np_model.specs.declared.scheme.FlowKind.{FlowKind}
-use Rattle.np_model.specs.declared.scheme.FlowKind.TheVariants.{Link, Hold, Drain, Feed}
 use Rattle.np_model.specs.Stages.{Stage}
-use Rattle.np_model.specs.Schemes.{is_hold}
-use Rattle.np_model.specs.Valid.{JoinsNodes, IsSound}
-use Rattle.cert_checker.specs.Walk.{◌▷◌, balance_step, balance_of, add_cost, cost_of}
-use Rattle.cert_checker.specs.Plain.{AreNodes, IsPlainFlow, plain_ends, plain_stage, plain_stages}
-use Rattle.cert_checker.proofs.First.{one_more}
+use Rattle.cert_checker.specs.Walk.{◌▷◌, first_refusal, goes_on_unless}
+use Rattle.cert_checker.specs.Arcs.{stage_with, stage_for, as_stage, stages_of}
+use Rattle.cert_checker.specs.declared.staged.StagedArc.{StagedArc}
+use Rattle.cert_checker.specs.declared.answer.CheckRefusal.{CheckRefusal}
+use Rattle.cert_checker.proofs.First.{one_more, goes_on, stops, finds_none}
 
-abbrev pub pairs_of : List Flow → List Ratio → List (Stage × Ratio)
-pairs_of flows amounts = zip (plain_stages flows) amounts
+abbrev pub pairs_of : List Flow → List StagedArc → List Ratio → List (Stage × Ratio)
+pairs_of flows arcs amounts = zip (stages_of flows arcs) amounts
 
-pub length-stages : (flows : List Flow) → length (plain_stages flows) ≡ length flows
-length-stages flows = length-map (enumerate_from 0 flows) plain_stage ∙ length-enumerate_from 0 flows
+pub length-stages : (flows : List Flow) (arcs : List StagedArc) → length (stages_of flows arcs) ≡ length arcs
+length-stages flows arcs = length-map arcs (as_stage flows)
 
-pub length-pairs : (flows : List Flow) (amounts : List Ratio) → length amounts ≡ length flows → length (pairs_of flows amounts) ≡ length flows
-length-pairs flows amounts e = omega (arith, length-zip (plain_stages flows) amounts, length-stages flows)
+pub length-pairs : (flows : List Flow) (arcs : List StagedArc) (amounts : List Ratio) → length amounts ≡ length arcs → length (pairs_of flows arcs amounts) ≡ length arcs
+length-pairs flows arcs amounts e = omega (arith, length-zip (stages_of flows arcs) amounts, length-stages flows arcs)
 
-stage_at : (flows : List Flow) (i : ℕ) (f : Flow) (d : Stage) → i < length flows → f ≡ get_or flows i f → get_or (plain_stages flows) i d ≡ plain_stage (i, f)
-stage_at flows i f d h e =
-    let long : i < length (enumerate_from 0 flows) = omega (arith, length-enumerate_from 0 flows) in
-    get_or-map plain_stage (enumerate_from 0 flows) i (0, f) d long
-    ∙ ap plain_stage (get_or-enumerate_from 0 flows i (0, f) h ∙ ap₂ {A = ℕ} {B = Flow} {C = ℕ × Flow} (λ n g. (n, g)) (omega arith) (sym e))
+-- the staged arc of a flow that is there
+pub stage_is : (flows : List Flow) (arc : StagedArc) (flow : Flow) → arc.flow < length flows → flow ≡ get_or flows arc.flow flow → as_stage flows arc ≡ stage_with arc flow
+stage_is flows arc flow h e = ap (stage_for arc) (slice_get_read flows (length flows) arc.flow flow refl h e)
 
-pub pair_at : (flows : List Flow) (amounts : List Ratio) (i : ℕ) (f : Flow) (x : Ratio) → length amounts ≡ length flows → i < length flows → f ≡ get_or flows i f → x ≡ get_or amounts i x → get_or (pairs_of flows amounts) i (plain_stage (i, f), x) ≡ (plain_stage (i, f), x)
-pair_at flows amounts i f x e h at_f at_x =
-    get_or-zip (plain_stages flows) amounts i (plain_stage (i, f), x) (omega (arith, length-stages flows)) (omega arith)
-    ∙ ap₂ {A = Stage} {B = Ratio} {C = Stage × Ratio} (λ s q. (s, q)) (stage_at flows i f (plain_stage (i, f)) h at_f) (sym at_x)
+-- ---- a place of a loop over the staged arcs
 
--- the running value of a fold over one more pair
-pub fold_pair : {B : Type 0} (step : B → Stage × Ratio → B) (start : B) (flows : List Flow) (amounts : List Ratio) (i : ℕ) (f : Flow) (x : Ratio) → length amounts ≡ length flows → i < length flows → f ≡ get_or flows i f → x ≡ get_or amounts i x
-    → fold step start (take (i + 1) (pairs_of flows amounts)) ≡ step (fold step start (take i (pairs_of flows amounts))) (plain_stage (i, f), x)
-fold_pair step start flows amounts i f x e h at_f at_x =
-    ap (fold step start) (one_more (pairs_of flows amounts) i (plain_stage (i, f), x) (omega (arith, length-pairs flows amounts e)) (pair_at flows amounts i f x e h at_f at_x))
-    ∙ fold-append step start (take i (pairs_of flows amounts)) ((plain_stage (i, f), x) ∷ [])
+abbrev pub AreThere : List Flow → List StagedArc → Type 0
+AreThere flows arcs = All (λ arc. arc.flow < length flows) arcs
 
-pub fold_pairs_end : {B : Type 0} (step : B → Stage × Ratio → B) (start : B) (flows : List Flow) (amounts : List Ratio) (i : ℕ) → length amounts ≡ length flows → i ≡ length flows
-    → fold step start (take i (pairs_of flows amounts)) ≡ fold step start (pairs_of flows amounts)
-fold_pairs_end step start flows amounts i e h = ap (fold step start) (take_all i (pairs_of flows amounts) (omega (arith, length-pairs flows amounts e)))
+module _ (flows : List Flow) (arcs : List StagedArc) (i : ℕ) (arc : StagedArc) (flow : Flow) where
+  pub record Here : Type 0 where
+    pub there : AreThere flows arcs
+    pub below : i < length arcs
+    pub arc_is : arc ≡ get_or arcs i arc
+    pub flow_is : flow ≡ get_or flows arc.flow flow
 
--- the running balance of a node after one more flow
-pub balance_more : (flows : List Flow) (amounts : List Ratio) (i : ℕ) (f : Flow) (x : Ratio) (ends : Ends) (v : ℕ) (old new : Result Ratio Past) → length amounts ≡ length flows → i < length flows
-    → f ≡ get_or flows i f → x ≡ get_or amounts i x → ends ≡ plain_ends (get_or flows i f).kind → old ≡ balance_of (take i (pairs_of flows amounts)) v → new ≡ old ▷ balance_step v ends x
-    → new ≡ balance_of (take (i + 1) (pairs_of flows amounts)) v
-balance_more flows amounts i f x ends v old new e h at_f at_x is before after =
-    let ends_is : ends ≡ plain_ends f.kind = is ∙ ap (λ (g : Flow). plain_ends g.kind) (sym at_f) in
-    after
-    ∙ ap₂ {A = Result Ratio Past} {B = Ends} {C = Result Ratio Past} (λ r a. r ▷ balance_step v a x) before ends_is
-    ∙ sym (fold_pair (λ running (s, amount). running ▷ balance_step v s.ends amount) (Ok zero_ratio) flows amounts i f x e h at_f at_x)
+  pub stage_at : Here → (d : Stage) → get_or (stages_of flows arcs) i d ≡ stage_with arc flow
+  stage_at h d =
+      get_or-map (as_stage flows) arcs i arc d h.below
+      ∙ ap (as_stage flows) (sym h.arc_is)
+      ∙ stage_is flows arc flow (subst (λ (a : StagedArc). a.flow < length flows) (sym h.arc_is) (h.there i arc h.below)) h.flow_is
 
-pub kind_nodes : (n : ℕ) (kind : FlowKind) → JoinsNodes n kind → is_hold kind ≡ false → AreNodes n (plain_ends kind)
-kind_nodes n (Link from to gain) h e = h
-kind_nodes n (Hold node gain) h e = absurd (cc e)
-kind_nodes n (Drain node) h e = h
-kind_nodes n (Feed node) h e = h
+  pub pair_at : Here → (amounts : List Ratio) (x : Ratio) → length amounts ≡ length arcs → x ≡ get_or amounts i x → get_or (pairs_of flows arcs amounts) i (stage_with arc flow, x) ≡ (stage_with arc flow, x)
+  pair_at h amounts x e at_x =
+      get_or-zip (stages_of flows arcs) amounts i (stage_with arc flow, x) (omega (arith, length-stages flows arcs)) (omega (arith, h.below))
+      ∙ ap₂ {A = Stage} {B = Ratio} {C = Stage × Ratio} (λ s q. (s, q)) (stage_at h (stage_with arc flow)) (sym at_x)
 
--- the ends of a plain flow are nodes
-pub flow_nodes : (m n : ℕ) → m ≡ n → (flows : List Flow) (i : ℕ) (f : Flow) (ends : Ends) → i < length flows → ends ≡ plain_ends (get_or flows i f).kind → All (IsSound n) flows → All IsPlainFlow flows → AreNodes m ends
-flow_nodes m n same flows i f ends h is sound plain =
-    rw (same, is) (kind_nodes n (get_or flows i f).kind (sound i f h).joins (plain i f h).no_hold)
+  -- what holds of each staged arc holds here
+  pub stage_here : Here → (P : Stage → Type 0) → All P (stages_of flows arcs) → P (stage_with arc flow)
+  stage_here h P all =
+      subst (λ (s : Stage). P s) (stage_at h (stage_with arc flow)) (all i (stage_with arc flow) (omega (arith, h.below, length-stages flows arcs)))
 
--- the running cost after one more flow
-pub cost_more : (flows : List Flow) (amounts : List Ratio) (i : ℕ) (f : Flow) (x old : Ratio) (res : Result Ratio Past) → length amounts ≡ length flows → i < length flows → f ≡ get_or flows i f → x ≡ get_or amounts i x
-    → Ok old ≡ cost_of (take i (pairs_of flows amounts)) → ((number : ℕ) → res ≡ add_cost (plain_stage (number, f), x) old) → res ≡ cost_of (take (i + 1) (pairs_of flows amounts))
-cost_more flows amounts i f x old res e h at_f at_x before after =
-    after i
-    ∙ ap (λ (r : Result Ratio Past). r ▷ add_cost (plain_stage (i, f), x)) before
-    ∙ sym (fold_pair (λ running pair. running ▷ add_cost pair) (Ok zero_ratio) flows amounts i f x e h at_f at_x)
+  pub arc_here : Here → (P : StagedArc → Type 0) → All P arcs → P arc
+  arc_here h P all = subst (λ (a : StagedArc). P a) (sym h.arc_is) (all i arc h.below)
 
-cost_past : (p : Past) (pairs : List (Stage × Ratio)) → fold (λ running pair. running ▷ add_cost pair) (Err p) pairs ≡ Err p
-cost_past p [] = refl
-cost_past p (pair ∷ pairs) = cost_past p pairs
+  -- a loop that tests one staged arc after the other
+  pub arcs_go_on : Here → (f : Stage → Option CheckRefusal) (res : Result (Unit {0}) CheckRefusal) (u : Unit {0}) → first_refusal f (take i (stages_of flows arcs)) ≡ None → res ≡ goes_on_unless (f (stage_with arc flow)) → res ≡ Ok u
+      → first_refusal f (take (i + 1) (stages_of flows arcs)) ≡ None
+  arcs_go_on h f res u so_far here ok =
+      goes_on f (stages_of flows arcs) i (stage_with arc flow) res u (omega (arith, h.below, length-stages flows arcs)) (stage_at h (stage_with arc flow)) so_far here ok
 
--- an operation that passes is the answer
-pub cost_stops : (pairs : List (Stage × Ratio)) (i : ℕ) (p : Past) → Err p ≡ cost_of (take i pairs) → Err p ≡ cost_of pairs
-cost_stops pairs i p e =
-    sym (ap cost_of (sym (take-append-drop i pairs))
-    ∙ fold-append (λ running pair. running ▷ add_cost pair) (Ok zero_ratio) (take i pairs) (drop i pairs)
-    ∙ ap (λ (r : Result Ratio Past). fold (λ running pair. running ▷ add_cost pair) r (drop i pairs)) (sym e)
-    ∙ cost_past p (drop i pairs))
+  pub arcs_stop : Here → (f : Stage → Option CheckRefusal) (res : Result (Unit {0}) CheckRefusal) (r : CheckRefusal) → first_refusal f (take i (stages_of flows arcs)) ≡ None → res ≡ goes_on_unless (f (stage_with arc flow)) → res ≡ Err r
+      → Err r ≡ goes_on_unless (first_refusal f (stages_of flows arcs))
+  arcs_stop h f res r so_far here err =
+      stops f (stages_of flows arcs) i (stage_with arc flow) res r (omega (arith, h.below, length-stages flows arcs)) (stage_at h (stage_with arc flow)) so_far here err
+
+  -- and beside its amount
+  pub pairs_go_on : Here → (f : Stage × Ratio → Option CheckRefusal) (amounts : List Ratio) (x : Ratio) (res : Result (Unit {0}) CheckRefusal) (u : Unit {0}) → length amounts ≡ length arcs → x ≡ get_or amounts i x
+      → first_refusal f (take i (pairs_of flows arcs amounts)) ≡ None → res ≡ goes_on_unless (f (stage_with arc flow, x)) → res ≡ Ok u → first_refusal f (take (i + 1) (pairs_of flows arcs amounts)) ≡ None
+  pairs_go_on h f amounts x res u e at_x so_far here ok =
+      goes_on f (pairs_of flows arcs amounts) i (stage_with arc flow, x) res u (omega (arith, h.below, length-pairs flows arcs amounts e)) (pair_at h amounts x e at_x) so_far here ok
+
+  pub pairs_stop : Here → (f : Stage × Ratio → Option CheckRefusal) (amounts : List Ratio) (x : Ratio) (res : Result (Unit {0}) CheckRefusal) (r : CheckRefusal) → length amounts ≡ length arcs → x ≡ get_or amounts i x
+      → first_refusal f (take i (pairs_of flows arcs amounts)) ≡ None → res ≡ goes_on_unless (f (stage_with arc flow, x)) → res ≡ Err r → Err r ≡ goes_on_unless (first_refusal f (pairs_of flows arcs amounts))
+  pairs_stop h f amounts x res r e at_x so_far here err =
+      stops f (pairs_of flows arcs amounts) i (stage_with arc flow, x) res r (omega (arith, h.below, length-pairs flows arcs amounts e)) (pair_at h amounts x e at_x) so_far here err
+
+pub arcs_end : (f : Stage → Option CheckRefusal) (flows : List Flow) (arcs : List StagedArc) (i : ℕ) → length arcs ≤ i → first_refusal f (take i (stages_of flows arcs)) ≡ None → Ok tt ≡ goes_on_unless (first_refusal f (stages_of flows arcs))
+arcs_end f flows arcs i h so_far = finds_none f (stages_of flows arcs) i (omega (arith, length-stages flows arcs)) so_far
+
+pub pairs_end : (f : Stage × Ratio → Option CheckRefusal) (flows : List Flow) (arcs : List StagedArc) (amounts : List Ratio) (i : ℕ) → length amounts ≡ length arcs → length arcs ≤ i → first_refusal f (take i (pairs_of flows arcs amounts)) ≡ None
+    → Ok tt ≡ goes_on_unless (first_refusal f (pairs_of flows arcs amounts))
+pairs_end f flows arcs amounts i e h so_far = finds_none f (pairs_of flows arcs amounts) i (omega (arith, length-pairs flows arcs amounts e)) so_far
+
+-- ---- steps that may pass
+
+pub bind_same : {A B : Type 0} (r : Result A Past) (f g : A → Result B Past) → ((y : A) → f y ≡ g y) → r ▷ f ≡ r ▷ g
+bind_same (Ok y) f g h = h y
+bind_same (Err p) f g h = refl
+
+pub bind_ok : {A : Type 0} (r : Result A Past) (f : A → Result A Past) → ((y : A) → f y ≡ Ok y) → r ▷ f ≡ r
+bind_ok (Ok y) f h = h y
+bind_ok (Err p) f h = refl
+
+pub bind_twice : {A B C : Type 0} (r : Result A Past) (f : A → Result B Past) (k : B → Result C Past) → (r ▷ f) ▷ k ≡ r ▷ (λ y. f y ▷ k)
+bind_twice (Ok y) f k = refl
+bind_twice (Err p) f k = refl
+
+-- ---- a fold whose steps may pass
+
+pub fold_more : {A B : Type 0} (step : B → A → B) (start : B) (xs : List A) (i : ℕ) (y : A) → i < length xs → get_or xs i y ≡ y → fold step start (take (i + 1) xs) ≡ step (fold step start (take i xs)) y
+fold_more step start xs i y h e = ap (fold step start) (one_more xs i y h e) ∙ fold-append step start (take i xs) (y ∷ [])
+
+module _ {A : Type 0} (step : A → Ratio → Result Ratio Past) (start : Result Ratio Past) where
+  abbrev pub run : List A → Result Ratio Past
+  run xs = fold (λ running a. running ▷ step a) start xs
+
+  past_stays : (p : Past) (xs : List A) → fold (λ running a. running ▷ step a) (Err p) xs ≡ Err p
+  past_stays p [] = refl
+  past_stays p (a ∷ xs) = past_stays p xs
+
+  pub runs_on : (xs : List A) (i : ℕ) (y : A) (old : Ratio) (res : Result Ratio Past) → i < length xs → get_or xs i y ≡ y → Ok old ≡ run (take i xs) → res ≡ step y old → res ≡ run (take (i + 1) xs)
+  runs_on xs i y old res h e so_far here =
+      here ∙ ap (λ (r : Result Ratio Past). r ▷ step y) so_far ∙ sym (fold_more (λ running a. running ▷ step a) start xs i y h e)
+
+  pub run_stops : (xs : List A) (i : ℕ) (p : Past) → Err p ≡ run (take i xs) → Err p ≡ run xs
+  run_stops xs i p e =
+      sym (ap run (sym (take-append-drop i xs))
+      ∙ fold-append (λ running a. running ▷ step a) start (take i xs) (drop i xs)
+      ∙ ap (λ (r : Result Ratio Past). fold (λ running a. running ▷ step a) r (drop i xs)) (sym e)
+      ∙ past_stays p (drop i xs))
+
+  pub run_ends : (xs : List A) (i : ℕ) (old : Ratio) → length xs ≤ i → Ok old ≡ run (take i xs) → Ok old ≡ run xs
+  run_ends xs i old h so_far = so_far ∙ ap run (take_all i xs h)

@@ -1,5 +1,5 @@
--- A plan that the whole walk leaves without a refusal is a least-cost plan.
-use Rattle.std.specs.Prelude.{◌≡◌, ℕ, ◌+◌, ◌<◌, ◌||◌, not, Bool, true, false, suc, zero, Option, Some, None, Result, Ok, Err, List, [], ◌∷◌, length, map}
+-- What a plan is that the whole walk leaves without a refusal.
+use Rattle.std.specs.Prelude.{◌≡◌, ℕ, ◌+◌, ◌<◌, ◌&&◌, ◌||◌, not, Bool, true, false, suc, zero, Option, Some, None, Result, Ok, Err, List, [], ◌∷◌, length, map}
 use Rattle.std.specs.List.{All, AllByRecursion, zip, enumerate_from}
 use Rattle.std.proofs.Common.{refl, sym, subst, ◌∙◌, arith}
 use Rattle.std.proofs.lemmas.List.Elements.{All-from_recursion}
@@ -10,13 +10,18 @@ use Rattle.np_frac.specs.declared.frac.Past.{Past}
 use Rattle.np_frac.proofs.RatioLaws.{clash, is_below_true, is_below_false}
 use Rattle.np_model.specs.declared.arc.Upper.{Upper}
 use Rattle.np_model.specs.declared.arc.Upper.TheVariants.{Finite, Infinite}
+use Rattle.np_model.specs.declared.arc.NetArc.{NetArc}
 use Rattle.np_model.specs.declared.plan.CheckRow.{CheckRow}
-use Rattle.np_model.specs.Network.{ReducedByEnds, IsAtMost, IsWithin, at, balance}
-use Rattle.np_model.specs.Stages.{Stage, Segment, segments, hull, stages_cost, StagesFeasible, StagesLeast, StagesShow, StagesDuality, IsUnder, IsKink, IsValid}
-use Rattle.cert_checker.specs.Walk.{tested, refused_if, or_then, first_refusal, balance_of, balance_clause, bound_clause, end_of, is_above, is_under, price_of, left_test, right_test, reduced_clause, cost_of, cost_clause, reject_node}
+use Rattle.np_model.specs.declared.plan.CheckRow.TheVariants.{C1, C2, C3, C4, C5, C6}
+use Rattle.np_model.specs.Network.{ReducedByEnds, IsAtMost, IsWithin, IsFinite, at, balance, reduced}
+use Rattle.np_model.specs.Stages.{Stage, Segment, segments, last_end, hull, stages_cost, stages_gap, StagesFeasible, StagesShow, StagesImpossible, StagesRay, IsUnder, IsKink}
+use Rattle.cert_checker.specs.Walk.{tested, refused_if, or_then, first_refusal, balance_of, node_clause, balance_clauses, bound_clause, end_of, is_finite, is_above, is_under, price_of, left_test, right_test, reduced_clause, cost_of, cost_clause, reject_node, upper_clause, end_clause, gap_of, gap_clause, ray_clause, ray_balance_clauses, ray_cost_of, ray_cost_clause, feasible_refusal, shown_refusal, infeasible_refusal, falling_refusal}
 use Rattle.cert_checker.specs.Plain.{AreNodes}
+use Rattle.cert_checker.specs.Sums.{HasEnds}
+use Rattle.cert_checker.specs.declared.answer.Clause.{Clause}
+use Rattle.cert_checker.specs.declared.answer.Clause.TheVariants.{Balance, RayBalance}
 use Rattle.cert_checker.specs.declared.answer.CheckRefusal.{CheckRefusal}
-use Rattle.cert_checker.proofs.Exact.{balance_exact, end_exact, price_exact, cost_exact}
+use Rattle.cert_checker.proofs.Exact.{balance_exact, end_exact, price_exact, cost_exact, gap_exact, ray_cost_exact}
 
 -- ---- clauses without a refusal
 
@@ -57,10 +62,14 @@ hulls P Q f [] xs h = tt
 hulls P Q f (s ∷ stages) [] h = tt
 hulls P Q f (s ∷ stages) (x ∷ xs) h = (f s x h.0, hulls P Q f stages xs h.1)
 
-within_hulls : (stages : List Stage) (xs : List Ratio) → AllByRecursion (λ (s, x). IsWithin (hull s) x) (zip stages xs) → AllByRecursion (λ (a, x). IsWithin a x) (zip (map hull stages) xs)
-within_hulls [] xs h = tt
-within_hulls (s ∷ stages) [] h = tt
-within_hulls (s ∷ stages) (x ∷ xs) h = (h.0, within_hulls stages xs h.1)
+over_hulls : (P : NetArc × Ratio → Type 0) (stages : List Stage) (xs : List Ratio) → AllByRecursion (λ (s, x). P (hull s, x)) (zip stages xs) → AllByRecursion P (zip (map hull stages) xs)
+over_hulls P [] xs h = tt
+over_hulls P (s ∷ stages) [] h = tt
+over_hulls P (s ∷ stages) (x ∷ xs) h = (h.0, over_hulls P stages xs h.1)
+
+all_hulls : (P : NetArc → Type 0) (stages : List Stage) → AllByRecursion (λ s. P (hull s)) stages → AllByRecursion P (map hull stages)
+all_hulls P [] h = tt
+all_hulls P (s ∷ stages) h = (h.0, all_hulls P stages h.1)
 
 -- ---- bounds
 
@@ -116,39 +125,137 @@ slopes_hold law p [] xs nodes h = tt
 slopes_hold law p (s ∷ stages) [] nodes h = tt
 slopes_hold law p (s ∷ stages) (x ∷ xs) nodes h = (reduced_holds law p s x nodes.0 h.0, slopes_hold law p stages xs nodes.1 h.1)
 
--- ---- the whole walk, over staged arcs
+-- ---- feasible
 
-pub record Shown (supply : List Ratio) (stages : List Stage) (p x : List Ratio) (cost : Ratio) : Type 0 where
-  pub least : StagesLeast supply stages x
-  pub cost_is : stages_cost stages x ≡ cost
-  pub shown : StagesShow supply stages p x
-
-module _ (law : ReducedByEnds) (duality : StagesDuality) (k : ℕ) (supply : List Ratio) (stages : List Stage) (p x : List Ratio) (cost : Ratio) where
-  balance_holds : first_refusal (balance_clause k (zip stages x)) (enumerate_from 0 supply) ≡ None → (v : ℕ) → v < length supply → balance (map hull stages) x v ≡ at supply v
-  balance_holds e v below =
-      let here = at_node (balance_clause k (zip stages x)) 0 supply (each_none (balance_clause k (zip stages x)) (enumerate_from 0 supply) e) v below in
+module _ (k : ℕ) (supply : List Ratio) (stages : List Stage) (x : List Ratio) where
+  nodes_hold : (row : CheckRow) (clause : Clause) (wanted : List Ratio) → first_refusal (node_clause row clause k (zip stages x)) (enumerate_from 0 wanted) ≡ None
+      → (v : ℕ) → v < length wanted → balance (map hull stages) x v ≡ at wanted v
+  nodes_hold row clause wanted e v below =
+      let here = at_node (node_clause row clause k (zip stages x)) 0 wanted (each_none (node_clause row clause k (zip stages x)) (enumerate_from 0 wanted) e) v below in
       let same : 0 + v ≡ v = omega arith in
-      let found = tested_none _ (balance_of (zip stages x) v) (λ sum. refused_if (not (ratio_eq sum (at supply v))) (reject_node k v)) (rw same at here) in
-      sym (balance_exact stages x v found.0 found.1) ∙ tests_true found.0 (at supply v) (not_false _ (refused_none _ _ found.2))
+      let found = tested_none row (balance_of (zip stages x) v) (λ sum. refused_if (not (ratio_eq sum (at wanted v))) (reject_node clause k v)) (rw same at here) in
+      sym (balance_exact stages x v found.0 found.1) ∙ tests_true found.0 (at wanted v) (not_false _ (refused_none _ _ found.2))
 
-  pub shown_by_walk : length x ≡ length stages → length p ≡ length supply → All IsValid stages → AllByRecursion (λ s. AreNodes (length p) s.ends) stages
-      → first_refusal (balance_clause k (zip stages x)) (enumerate_from 0 supply) ≡ None → first_refusal bound_clause (zip stages x) ≡ None → first_refusal (reduced_clause p) (zip stages x) ≡ None
-      → cost_clause (zip stages x) cost ≡ None → Shown supply stages p x cost
-  shown_by_walk long prices valid nodes balanced bounded sloped costs =
-      let within = hulls (λ z. bound_clause z ≡ None) (λ (s, q). IsWithin (hull s) q) bound_holds stages x (each_none bound_clause (zip stages x) bounded) in
-      let feasible : StagesFeasible supply stages x = record {
+  pub feasible_by_walk : length x ≡ length stages → feasible_refusal k supply stages x ≡ None → StagesFeasible supply stages x
+  feasible_by_walk long e =
+      let parts = both_none (balance_clauses k (zip stages x) supply) (first_refusal bound_clause (zip stages x)) e in
+      let within = hulls (λ z. bound_clause z ≡ None) (λ (s, q). IsWithin (hull s) q) bound_holds stages x (each_none bound_clause (zip stages x) parts.1) in
+      record {
         one_each = long ∙ sym (length-map stages hull);
-        balanced = balance_holds balanced;
-        within = All-from_recursion (λ (a, q). IsWithin a q) (zip (map hull stages) x) (within_hulls stages x within);
-      } in
-      let shows : StagesShow supply stages p x = record {
+        balanced = nodes_hold C1 Balance supply parts.0;
+        within = All-from_recursion (λ (a, q). IsWithin a q) (zip (map hull stages) x) (over_hulls (λ (a, q). IsWithin a q) stages x within);
+      }
+
+-- the ends of a staged arc within its bounds were found
+ends_hold : (stages : List Stage) (xs : List Ratio) → length xs ≡ length stages → AllByRecursion (λ z. bound_clause z ≡ None) (zip stages xs) → AllByRecursion HasEnds stages
+ends_hold [] xs long h = tt
+ends_hold (s ∷ stages) [] long h = absurd (omega arith)
+ends_hold (s ∷ stages) (x ∷ xs) long h = (has_ends s x h.0, ends_hold stages xs (omega arith) h.1)
+  where
+    has_ends : (st : Stage) (q : Ratio) → bound_clause (st, q) ≡ None → HasEnds st
+    has_ends st q e = let found = tested_none C2 (end_of st.upper st.bands) _ e in rw found.1 refl
+
+pub ends_by_walk : (k : ℕ) (supply : List Ratio) (stages : List Stage) (x : List Ratio) → length x ≡ length stages → feasible_refusal k supply stages x ≡ None → All HasEnds stages
+ends_by_walk k supply stages x long e =
+    All-from_recursion HasEnds stages (ends_hold stages x long (each_none bound_clause (zip stages x) (both_none (balance_clauses k (zip stages x) supply) (first_refusal bound_clause (zip stages x)) e).1))
+
+-- ---- an optimal plan
+
+module _ (law : ReducedByEnds) (supply : List Ratio) (stages : List Stage) (p x : List Ratio) (cost : Ratio) where
+  pub shown_by_walk : length p ≡ length supply → AllByRecursion (λ s. AreNodes (length p) s.ends) stages → shown_refusal stages x p cost ≡ None → StagesShow supply stages p x
+  shown_by_walk prices nodes e =
+      let sloped = (both_none (first_refusal (reduced_clause p) (zip stages x)) (cost_clause (zip stages x) cost) e).0 in
+      record {
         one_each = prices;
         slopes = All-from_recursion (λ (s, q). All (IsKink p s.ends q) (segments s)) (zip stages x)
             (slopes_hold law p stages x nodes (each_none (reduced_clause p) (zip stages x) sloped));
-      } in
-      let found = tested_none _ (cost_of (zip stages x)) (λ sum. refused_if (not (ratio_eq sum cost)) _) costs in
+      }
+
+  pub cost_by_walk : shown_refusal stages x p cost ≡ None → stages_cost stages x ≡ cost
+  cost_by_walk e =
+      let costs = (both_none (first_refusal (reduced_clause p) (zip stages x)) (cost_clause (zip stages x) cost) e).1 in
+      let found = tested_none C4 (cost_of (zip stages x)) (λ sum. refused_if (not (ratio_eq sum cost)) _) costs in
+      sym (cost_exact stages x found.0 found.1) ∙ tests_true found.0 cost (not_false _ (refused_none _ _ found.2))
+
+-- ---- no plan
+
+has_finite : (u : Upper) → is_finite u ≡ true → IsFinite u
+has_finite (Finite u) e = tt
+has_finite Infinite e = absurd (cc e)
+
+and_false : (a b : Bool) → a ≡ true → (a && b) ≡ false → b ≡ false
+and_false true b e f = f
+and_false false b e f = absurd (cc e)
+
+upper_holds : ReducedByEnds → (p : List Ratio) (s : Stage) → AreNodes (length p) s.ends → upper_clause p s ≡ None → reduced p s.ends zero_ratio <ᵣ zero_ratio → IsFinite (last_end s.upper s.bands)
+upper_holds law p s nodes e under =
+    let found = tested_none C3 (price_of p s.ends zero_ratio) _ e in
+    let r = price_exact law p s.ends zero_ratio found.0 nodes found.1 in
+    has_finite (last_end s.upper s.bands)
+    (not_false _ (and_false (is_below found.0 zero_ratio) (not (is_finite (last_end s.upper s.bands))) (is_below_so found.0 zero_ratio (rw r under)) (refused_none _ _ found.2)))
+
+uppers_hold : ReducedByEnds → (p : List Ratio) (stages : List Stage) → AllByRecursion (λ s. AreNodes (length p) s.ends) stages → AllByRecursion (λ s. upper_clause p s ≡ None) stages
+    → AllByRecursion (λ s. reduced p s.ends zero_ratio <ᵣ zero_ratio → IsFinite (last_end s.upper s.bands)) stages
+uppers_hold law p [] nodes h = tt
+uppers_hold law p (s ∷ stages) nodes h = (upper_holds law p s nodes.0 h.0, uppers_hold law p stages nodes.1 h.1)
+
+module _ (law : ReducedByEnds) (supply : List Ratio) (stages : List Stage) (p : List Ratio) (amount : Ratio) where
+  pub forbidden_by_walk : length p ≡ length supply → AllByRecursion (λ s. AreNodes (length p) s.ends) stages → infeasible_refusal supply stages p amount ≡ None → StagesImpossible supply stages p × (stages_gap supply stages p ≡ amount)
+  forbidden_by_walk prices nodes e =
+      let parts = both_none (first_refusal (upper_clause p) stages) _ e in
+      let more = both_none (first_refusal end_clause stages) (gap_clause supply stages p amount) parts.1 in
+      let found = tested_none C5 (gap_of supply stages p) _ more.1 in
+      let exact = gap_exact law supply stages p found.0 nodes found.1 in
+      let tests = or_false (not (is_below zero_ratio found.0)) (not (ratio_eq found.0 amount)) (refused_none _ _ found.2) in (
+        record {
+          one_each = prices;
+          finite = All-from_recursion (λ a. reduced p a.ends zero_ratio <ᵣ zero_ratio → IsFinite a.upper) (map hull stages)
+              (all_hulls (λ a. reduced p a.ends zero_ratio <ᵣ zero_ratio → IsFinite a.upper) stages (uppers_hold law p stages nodes (each_none (upper_clause p) stages parts.0)));
+          gap_above = subst (λ g. zero_ratio <ᵣ g) exact (is_below_true zero_ratio found.0 (not_false _ tests.0));
+        },
+        sym exact ∙ tests_true found.0 amount (not_false _ tests.1),
+      )
+
+-- ---- no least plan
+
+is_infinite : (u : Upper) → is_finite u ≡ false → u ≡ Infinite
+is_infinite (Finite u) e = absurd (cc e)
+is_infinite Infinite e = refl
+
+sign_holds : (s : Stage) (d : Ratio) → ray_clause (s, d) ≡ None → zero_ratio ≤ᵣ d
+sign_holds s d e = is_below_false d zero_ratio (refused_none _ _ (both_none _ _ e).0)
+
+free_holds : (s : Stage) (d : Ratio) → ray_clause (s, d) ≡ None → zero_ratio <ᵣ d → last_end s.upper s.bands ≡ Infinite
+free_holds s d e above =
+    is_infinite (last_end s.upper s.bands)
+    (and_false (is_below zero_ratio d) (is_finite (last_end s.upper s.bands)) (is_below_so zero_ratio d above) (refused_none _ _ (both_none _ _ e).1))
+
+signs_hold : (stages : List Stage) (ds : List Ratio) → length ds ≡ length stages → AllByRecursion (λ z. ray_clause z ≡ None) (zip stages ds) → AllByRecursion (λ d. zero_ratio ≤ᵣ d) ds
+signs_hold [] [] long h = tt
+signs_hold [] (d ∷ ds) long h = absurd (omega arith)
+signs_hold (s ∷ stages) [] long h = tt
+signs_hold (s ∷ stages) (d ∷ ds) long h = (sign_holds s d h.0, signs_hold stages ds (omega arith) h.1)
+
+at_zeros : (supply : List Ratio) (v : ℕ) → at (map (λ b. zero_ratio) supply) v ≡ zero_ratio
+at_zeros [] v = refl
+at_zeros (b ∷ supply) zero = refl
+at_zeros (b ∷ supply) (suc v) = at_zeros supply v
+
+module _ (k : ℕ) (supply : List Ratio) (stages : List Stage) (x d : List Ratio) where
+  pub falls_by_walk : length d ≡ length stages → StagesFeasible supply stages x → falling_refusal k supply stages d ≡ None → StagesRay supply stages x d
+  falls_by_walk long feasible e =
+      let parts = both_none (first_refusal ray_clause (zip stages d)) _ e in
+      let more = both_none (ray_balance_clauses k (zip stages d) supply) (ray_cost_clause (zip stages d)) parts.1 in
+      let rays = each_none ray_clause (zip stages d) parts.0 in
+      let found = tested_none C6 (ray_cost_of (zip stages d)) _ more.1 in
       record {
-        least = duality supply stages p x valid feasible shows;
-        cost_is = sym (cost_exact stages x found.0 found.1) ∙ tests_true found.0 cost (not_false _ (refused_none _ _ found.2));
-        shown = shows;
+        feasible = feasible;
+        one_each = long ∙ sym (length-map stages hull);
+        not_negative = All-from_recursion (λ q. zero_ratio ≤ᵣ q) d (signs_hold stages d long rays);
+        unbounded = All-from_recursion (λ (a, q). zero_ratio <ᵣ q → a.upper ≡ Infinite) (zip (map hull stages) d)
+            (over_hulls (λ (a, q). zero_ratio <ᵣ q → a.upper ≡ Infinite) stages d
+            (hulls (λ z. ray_clause z ≡ None) (λ (s, q). zero_ratio <ᵣ q → last_end s.upper s.bands ≡ Infinite) free_holds stages d rays));
+        balanced = λ v below.
+            nodes_hold k supply stages d C6 RayBalance (map (λ b. zero_ratio) supply) more.0 v (omega (arith, length-map supply (λ (b : Ratio). zero_ratio))) ∙ at_zeros supply v;
+        falls = subst (λ c. c <ᵣ zero_ratio) (ray_cost_exact stages d found.0 found.1) (is_below_true found.0 zero_ratio (not_false _ (refused_none _ _ found.2)));
       }

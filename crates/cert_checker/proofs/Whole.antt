@@ -1,104 +1,155 @@
--- The walk over a plain scheme and an optimal plan that fits it.
-use Rattle.std.specs.Prelude.{◌≡◌, ℕ, ◌+◌, ◌*◌, ◌^◌, ◌<◌, ◌≤◌, None, Result, Ok, Err, List, [], ◌∷◌, length, map}
-use Rattle.std.specs.List.{AllByRecursion, zip, enumerate_from}
-use Rattle.std.proofs.Common.{refl, sym, ap, subst, ◌∙◌, arith}
-use Rattle.std.proofs.lemmas.List.Elements.{recursion_from_All, All-from_recursion}
+-- The walk over a scheme and a plan that fits it, from the lists that the code reads.
+use Rattle.std.specs.Prelude.{◌≡◌, ℕ, Option, None, Result, Ok, Err, List, length}
+use Rattle.std.specs.List.{All, AllByRecursion}
+use Rattle.std.proofs.Common.{refl, sym, ap, subst, ◌∙◌}
+use Rattle.std.proofs.lemmas.List.Elements.{recursion_from_All}
 use Rattle.np_frac.specs.Ratio.{Ratio}
 use Rattle.np_model.specs.declared.scheme.Flow.{Flow}
 use Rattle.np_model.specs.declared.scheme.Scheme.{Scheme}
 use Rattle.np_model.specs.declared.plan.Verdict.{Verdict}
-use Rattle.np_model.specs.declared.plan.Verdict.TheVariants.{Optimal}
+use Rattle.np_model.specs.declared.plan.Verdict.TheVariants as verdict
 use Rattle.np_model.specs.declared.plan.Plan.{Plan}
 use Rattle.np_model.specs.Network.{ReducedByEnds}
-use Rattle.np_model.specs.Stages.{Stage, StagesDuality, IsValid}
-use Rattle.np_model.specs.Schemes.{staged}
-use Rattle.np_model.specs.Valid.{IsSound}
-use Rattle.np_model.specs.Fits.{FitsAs, PlanFits, OptimalFits}
-use Rattle.cert_checker.specs.Walk.{walk, walk_refusal, amount_of, first_refusal, balance_clause, bound_clause, reduced_clause, goes_on_unless, UnlessMemory}
-use Rattle.cert_checker.specs.Plain.{AreNodes, IsPlainFlow, IsPlain, plain_stage, plain_stages}
-use Rattle.cert_checker.specs.Proves.{ProvesOptimal}
-use Rattle.cert_checker.specs.Sums.{plain_refusal}
+use Rattle.np_model.specs.Stages.{Stage}
+use Rattle.np_model.specs.Schemes.{staged, IsFeasiblePlan, PricesProve, PricesExclude, RaysProve}
+use Rattle.np_model.specs.Fits.{FitsAs, PlanFits, OptimalFits, InfeasibleFits, UnboundedFits}
+use Rattle.cert_checker.specs.Walk.{walk, walk_as, amount_of, or_then, feasible_refusal, shown_refusal, optimal_refusal, infeasible_refusal, falling_refusal, unbounded_refusal, accepted_unless, goes_on_unless, UnlessMemory}
+use Rattle.cert_checker.specs.Plain.{AreNodes}
+use Rattle.cert_checker.specs.Sums.{HasEnds}
+use Rattle.cert_checker.specs.Proves.{ProvesOptimal, ProvesInfeasible, ProvesUnbounded}
+use Rattle.cert_checker.specs.Arcs.{stages_of}
+use Rattle.cert_checker.specs.declared.staged.StagedArc.{StagedArc}
 use Rattle.cert_checker.specs.declared.answer.CheckRefusal.{CheckRefusal}
+use Rattle.cert_checker.specs.declared.answer.Checked.{Checked}
 use Rattle.cert_checker.specs.declared.answer.Checked.TheVariants as checked
-use Rattle.cert_checker.proofs.First.{whole_refused, part_passes}
-use Rattle.cert_checker.proofs.Pairs.{length-stages, kind_nodes}
-use Rattle.cert_checker.proofs.Staged.{staged_plain}
-use Rattle.cert_checker.proofs.Theorem.{Shown, both_none, shown_by_walk}
+use Rattle.cert_checker.proofs.First.{first_part, next_part, whole_refused}
+use Rattle.cert_checker.proofs.Pairs.{AreThere}
+use Rattle.cert_checker.proofs.Arcs.{arcs_there, arcs_joined, staged_joined}
+use Rattle.cert_checker.proofs.Theorem.{feasible_by_walk, ends_by_walk, shown_by_walk, cost_by_walk, forbidden_by_walk, falls_by_walk}
 
-pub optimal_fits : (scheme : Scheme) (plan : Plan) → plan.verdict ≡ Optimal → PlanFits scheme plan → OptimalFits scheme plan
+-- ---- what fits
+
+pub optimal_fits : (scheme : Scheme) (plan : Plan) → plan.verdict ≡ verdict.Optimal → PlanFits scheme plan → OptimalFits scheme plan
 optimal_fits scheme plan e fits = subst (λ (v : Verdict). FitsAs v scheme plan) e fits
 
-pub few_nodes : (scheme : Scheme) → IsPlain scheme → length scheme.nodes < 2 ^ 32
-few_nodes scheme plain =
-    let few = subst (λ (t : ℕ). length scheme.nodes * t ≤ 20000) plain.one_period scheme.valid.few_nodes in
-    omega arith
+pub infeasible_fits : (scheme : Scheme) (plan : Plan) → plan.verdict ≡ verdict.Infeasible → PlanFits scheme plan → InfeasibleFits scheme plan
+infeasible_fits scheme plan e fits = subst (λ (v : Verdict). FitsAs v scheme plan) e fits
 
-pub supply_each : (scheme : Scheme) → IsPlain scheme → length scheme.supply ≡ length scheme.nodes
-supply_each scheme plain =
-    let each = subst (λ (t : ℕ). length scheme.supply ≡ t * length scheme.nodes) plain.one_period scheme.valid.one_each in
-    omega arith
+pub unbounded_fits : (scheme : Scheme) (plan : Plan) → plan.verdict ≡ verdict.Unbounded → PlanFits scheme plan → UnboundedFits scheme plan
+unbounded_fits scheme plan e fits = subst (λ (v : Verdict). FitsAs v scheme plan) e fits
 
-pub flows_each : (scheme : Scheme) (plan : Plan) → IsPlain scheme → OptimalFits scheme plan → length plan.flows ≡ length scheme.flows
-flows_each scheme plan plain fits = fits.flows ∙ ap length (staged_plain scheme plain) ∙ length-stages scheme.flows
+-- ---- the walk of each verdict
 
-pub refusal_is : (scheme : Scheme) (plan : Plan) → IsPlain scheme → walk_refusal scheme plan ≡ plain_refusal (length scheme.nodes) scheme.supply scheme.flows plan.flows plan.prices (amount_of plan)
-refusal_is scheme plan plain = rw (staged_plain scheme plain) refl
+pub walk_optimal : (scheme : Scheme) (plan : Plan) → plan.verdict ≡ verdict.Optimal
+    → walk scheme plan ≡ accepted_unless (optimal_refusal (length scheme.nodes) scheme.supply (staged scheme) plan.flows plan.prices (amount_of plan)) (checked.Optimal (amount_of plan))
+unfolding walk
+walk_optimal scheme plan e = ap (λ (v : Verdict). walk_as v scheme plan) e
 
--- ---- the staged arcs are sound
+pub walk_infeasible : (scheme : Scheme) (plan : Plan) → plan.verdict ≡ verdict.Infeasible
+    → walk scheme plan ≡ accepted_unless (infeasible_refusal scheme.supply (staged scheme) plan.prices (amount_of plan)) (checked.Infeasible (amount_of plan))
+unfolding walk
+walk_infeasible scheme plan e = ap (λ (v : Verdict). walk_as v scheme plan) e
 
-valid_each : (n i : ℕ) (flows : List Flow) → AllByRecursion (IsSound n) flows → AllByRecursion IsValid (map plain_stage (enumerate_from i flows))
-valid_each n i [] h = tt
-valid_each n i (f ∷ flows) h = ((h.0.bounds, h.0.convex), valid_each n (i + 1) flows h.1)
+pub walk_unbounded : (scheme : Scheme) (plan : Plan) → plan.verdict ≡ verdict.Unbounded
+    → walk scheme plan ≡ accepted_unless (unbounded_refusal (length scheme.nodes) scheme.supply (staged scheme) plan.flows plan.ray) checked.Unbounded
+unfolding walk
+walk_unbounded scheme plan e = ap (λ (v : Verdict). walk_as v scheme plan) e
 
-nodes_each : (n i : ℕ) (flows : List Flow) → AllByRecursion (IsSound n) flows → AllByRecursion IsPlainFlow flows → AllByRecursion (λ s. AreNodes n s.ends) (map plain_stage (enumerate_from i flows))
-nodes_each n i [] h plain = tt
-nodes_each n i (f ∷ flows) h plain = (kind_nodes n f.kind h.0.joins plain.0.no_hold, nodes_each n (i + 1) flows h.1 plain.1)
+pub walk_of : (scheme : Scheme) (plan : Plan) (v : Verdict) → plan.verdict ≡ v → walk scheme plan ≡ walk_as v scheme plan
+unfolding walk
+walk_of scheme plan v e = ap (λ (z : Verdict). walk_as z scheme plan) e
 
--- ---- what an accepted plan is
+-- a walk of two parts
+module _ (a b : Option CheckRefusal) (w : Result Checked CheckRefusal) (x : Checked) (is : w ≡ accepted_unless (or_then a b) x) where
+  pub first_refuses : (r : CheckRefusal) (res : Result (Unit {0}) CheckRefusal) → UnlessMemory res (goes_on_unless a) → res ≡ Err r → UnlessMemory (Err r) w
+  first_refuses r res told e = rw is (whole_refused (or_then a b) x r (Err r) (first_part a b r res told e) refl)
 
-from_stages : (scheme : Scheme) (plan : Plan) (stages : List Stage) → staged scheme ≡ stages → Shown scheme.supply stages plan.prices plan.flows (amount_of plan) → ProvesOptimal scheme plan (amount_of plan)
-from_stages scheme plan stages e shown =
-    let over : Shown scheme.supply (staged scheme) plan.prices plan.flows (amount_of plan) = subst (λ (z : List Stage). Shown scheme.supply z plan.prices plan.flows (amount_of plan)) (sym e) shown in
-    record { least = over.least; cost_is = over.cost_is; shown = over.shown }
+  pub next_refuses : (r : CheckRefusal) (res : Result (Unit {0}) CheckRefusal) → a ≡ None → UnlessMemory res (goes_on_unless b) → res ≡ Err r → UnlessMemory (Err r) w
+  next_refuses r res passed told e = rw is (whole_refused (or_then a b) x r res (next_part a b res passed told) e)
 
-proves : ReducedByEnds → StagesDuality → (scheme : Scheme) (plan : Plan) → IsPlain scheme → OptimalFits scheme plan → walk_refusal scheme plan ≡ None → ProvesOptimal scheme plan (amount_of plan)
-proves law duality scheme plan plain fits none =
-    let stages = plain_stages scheme.flows in
-    let k = length scheme.nodes in
-    let sound = recursion_from_All (IsSound k) scheme.flows scheme.valid.sound in
-    let prices : length plan.prices ≡ k = fits.prices ∙ supply_each scheme plain in
-    let parts = both_none (first_refusal (balance_clause k (zip stages plan.flows)) (enumerate_from 0 scheme.supply)) _ (sym (refusal_is scheme plan plain) ∙ none) in
-    let more = both_none (first_refusal bound_clause (zip stages plan.flows)) _ parts.1 in
-    let last = both_none (first_refusal (reduced_clause plan.prices) (zip stages plan.flows)) _ more.1 in
-    from_stages scheme plan stages (staged_plain scheme plain)
-    (shown_by_walk law duality k scheme.supply stages plan.prices plan.flows (amount_of plan) (flows_each scheme plan plain fits ∙ sym (length-stages scheme.flows)) fits.prices
-    (All-from_recursion IsValid stages (valid_each k 0 scheme.flows sound))
-    (subst (λ (n : ℕ). AllByRecursion (λ s. AreNodes n s.ends) stages) (sym prices) (nodes_each k 0 scheme.flows sound (recursion_from_All IsPlainFlow scheme.flows plain.flows)))
-    parts.0 more.0 last.0 last.1)
+  pub both_pass : a ≡ None → b ≡ None → Ok x ≡ w
+  both_pass passed last = rw (is, passed, last) refl
+
+-- and one of one part
+pub one_refuses : (a : Option CheckRefusal) (w : Result Checked CheckRefusal) (x : Checked) → w ≡ accepted_unless a x → (r : CheckRefusal) (res : Result (Unit {0}) CheckRefusal) → UnlessMemory res (goes_on_unless a) → res ≡ Err r → UnlessMemory (Err r) w
+one_refuses a w x is r res told e = rw is (whole_refused a x r res told e)
+
+pub one_passes : (a : Option CheckRefusal) (w : Result Checked CheckRefusal) (x : Checked) → w ≡ accepted_unless a x → a ≡ None → Ok x ≡ w
+one_passes a w x is passed = rw (is, passed) refl
 
 -- ---- from the lists to the scheme and the plan
 
--- what the walk over the lists answers is what the walk answers
-pub refused : (scheme : Scheme) (plan : Plan) (r : CheckRefusal) (res : Result (Unit {0}) CheckRefusal) → IsPlain scheme
-    → UnlessMemory res (goes_on_unless (plain_refusal (length scheme.nodes) scheme.supply scheme.flows plan.flows plan.prices (amount_of plan))) → res ≡ Err r → UnlessMemory (Err r) (walk scheme plan)
-unfolding walk
-refused scheme plan r res plain h e =
-    whole_refused (walk_refusal scheme plan) (checked.Optimal (amount_of plan)) r res (rw (refusal_is scheme plan plain) h) e
+-- the lists that the code reads are the scheme's flows and its staged arcs
+pub record Reads (scheme : Scheme) (flows : List Flow) (arcs : List StagedArc) : Type 0 where
+  pub flows_are : flows ≡ scheme.flows
+  pub staged_are : stages_of scheme.flows arcs ≡ staged scheme
 
-pub passed : (scheme : Scheme) (plan : Plan) (u : Unit {0}) (res : Result (Unit {0}) CheckRefusal) → IsPlain scheme
-    → UnlessMemory res (goes_on_unless (plain_refusal (length scheme.nodes) scheme.supply scheme.flows plan.flows plan.prices (amount_of plan))) → res ≡ Ok u → walk_refusal scheme plan ≡ None
-passed scheme plan u res plain h e = refusal_is scheme plan plain ∙ part_passes _ u res h e
+pub reads : (scheme : Scheme) (flows : List Flow) (arcs items : List StagedArc) → flows ≡ scheme.flows → arcs ≡ items → stages_of scheme.flows items ≡ staged scheme → Reads scheme flows arcs
+reads scheme flows arcs items same e staged_are = record { flows_are = same; staged_are = ap (stages_of scheme.flows) e ∙ staged_are }
 
-pub accepted : (scheme : Scheme) (plan : Plan) → walk_refusal scheme plan ≡ None → Ok (checked.Optimal (amount_of plan)) ≡ walk scheme plan
-unfolding walk
-accepted scheme plan none = rw none refl
+module _ (scheme : Scheme) (plan : Plan) (flows : List Flow) (arcs : List StagedArc) (r : Reads scheme flows arcs) where
+  pub stages_are : stages_of flows arcs ≡ staged scheme
+  stages_are = ap (λ (fs : List Flow). stages_of fs arcs) r.flows_are ∙ r.staged_are
 
-pub accepted_proves : ReducedByEnds → StagesDuality → (scheme : Scheme) (plan : Plan) → IsPlain scheme → plan.verdict ≡ Optimal → PlanFits scheme plan → walk_refusal scheme plan ≡ None → ProvesOptimal scheme plan (amount_of plan)
-accepted_proves law duality scheme plan plain optimal fits none = proves law duality scheme plan plain (optimal_fits scheme plan optimal fits) none
+  pub lists_there : AreThere flows arcs
+  lists_there = subst (λ (fs : List Flow). AreThere fs arcs) (sym r.flows_are) (arcs_there scheme arcs r.staged_are)
 
--- the lists are those of the scheme and the plan
-pub over_lists : (scheme : Scheme) (plan : Plan) (k : ℕ) (supply : List Ratio) (flows : List Flow) (amounts prices : List Ratio) (cost : Ratio) (res : Result (Unit {0}) CheckRefusal)
-    → k ≡ length scheme.nodes → supply ≡ scheme.supply → flows ≡ scheme.flows → amounts ≡ plan.flows → prices ≡ plan.prices → cost ≡ amount_of plan
-    → UnlessMemory res (goes_on_unless (plain_refusal k supply flows amounts prices cost))
-    → UnlessMemory res (goes_on_unless (plain_refusal (length scheme.nodes) scheme.supply scheme.flows plan.flows plan.prices (amount_of plan)))
-over_lists scheme plan k supply flows amounts prices cost res a b c d e f h = rw (← a, ← b, ← c, ← d, ← e, ← f) h
+  -- the ends of all staged arcs are nodes of a list that has one entry for each supply
+  pub lists_joined : (list : List Ratio) → length list ≡ length scheme.supply → All (λ arc. AreNodes (length list) arc.ends) arcs
+  lists_joined list e = subst (λ (n : ℕ). All (λ (arc : StagedArc). AreNodes n arc.ends) arcs) (sym e) (arcs_joined scheme arcs r.staged_are)
+
+  pub feasible_told : (k : ℕ) (supply x : List Ratio) (res : Result (Unit {0}) CheckRefusal) → k ≡ length scheme.nodes → supply ≡ scheme.supply → x ≡ plan.flows → UnlessMemory res (goes_on_unless (feasible_refusal k supply (stages_of flows arcs) x))
+      → UnlessMemory res (goes_on_unless (feasible_refusal (length scheme.nodes) scheme.supply (staged scheme) plan.flows))
+  feasible_told k supply x res a b c told =
+      let same : feasible_refusal k supply (stages_of flows arcs) x ≡ feasible_refusal (length scheme.nodes) scheme.supply (staged scheme) plan.flows =
+      λ i. feasible_refusal (a i) (b i) (stages_are i) (c i)
+      in
+      subst (λ (o : Option CheckRefusal). UnlessMemory res (goes_on_unless o)) same told
+
+  pub shown_told : (x p : List Ratio) (cost : Ratio) (res : Result (Unit {0}) CheckRefusal) → x ≡ plan.flows → p ≡ plan.prices → cost ≡ amount_of plan → res ≡ goes_on_unless (shown_refusal (stages_of flows arcs) x p cost)
+      → res ≡ goes_on_unless (shown_refusal (staged scheme) plan.flows plan.prices (amount_of plan))
+  shown_told x p cost res a b c told = rw (← a, ← b, ← c, ← stages_are) told
+
+  pub forbidden_told : (supply p : List Ratio) (gap : Ratio) (res : Result (Unit {0}) CheckRefusal) → supply ≡ scheme.supply → p ≡ plan.prices → gap ≡ amount_of plan → res ≡ goes_on_unless (infeasible_refusal supply (stages_of flows arcs) p gap)
+      → res ≡ goes_on_unless (infeasible_refusal scheme.supply (staged scheme) plan.prices (amount_of plan))
+  forbidden_told supply p gap res a b c told = rw (← a, ← b, ← c, ← stages_are) told
+
+  pub falling_told : (k : ℕ) (supply d : List Ratio) (res : Result (Unit {0}) CheckRefusal) → k ≡ length scheme.nodes → supply ≡ scheme.supply → d ≡ plan.ray → UnlessMemory res (goes_on_unless (falling_refusal k supply (stages_of flows arcs) d))
+      → UnlessMemory res (goes_on_unless (falling_refusal (length scheme.nodes) scheme.supply (staged scheme) plan.ray))
+  falling_told k supply d res a b c told =
+      let same : falling_refusal k supply (stages_of flows arcs) d ≡ falling_refusal (length scheme.nodes) scheme.supply (staged scheme) plan.ray =
+      λ i. falling_refusal (a i) (b i) (stages_are i) (c i)
+      in
+      subst (λ (o : Option CheckRefusal). UnlessMemory res (goes_on_unless o)) same told
+
+  pub ends_told : length plan.flows ≡ length (staged scheme) → feasible_refusal (length scheme.nodes) scheme.supply (staged scheme) plan.flows ≡ None → All HasEnds (stages_of flows arcs)
+  ends_told long none = subst (λ (z : List Stage). All HasEnds z) (sym stages_are) (ends_by_walk (length scheme.nodes) scheme.supply (staged scheme) plan.flows long none)
+
+-- ---- what an accepted plan is
+
+joined_prices : (scheme : Scheme) (p : List Ratio) → length p ≡ length scheme.supply → AllByRecursion (λ s. AreNodes (length p) s.ends) (staged scheme)
+joined_prices scheme p e =
+    subst (λ (n : ℕ). AllByRecursion (λ (s : Stage). AreNodes n s.ends) (staged scheme)) (sym e) (recursion_from_All (λ s. AreNodes (length scheme.supply) s.ends) (staged scheme) (staged_joined scheme))
+
+pub proves_optimal : ReducedByEnds → PricesProve → (scheme : Scheme) (plan : Plan) → OptimalFits scheme plan → feasible_refusal (length scheme.nodes) scheme.supply (staged scheme) plan.flows ≡ None
+    → shown_refusal (staged scheme) plan.flows plan.prices (amount_of plan) ≡ None → ProvesOptimal scheme plan (amount_of plan)
+proves_optimal law duality scheme plan fits feasible shown =
+    let is_feasible : IsFeasiblePlan scheme plan.flows = feasible_by_walk (length scheme.nodes) scheme.supply (staged scheme) plan.flows fits.flows feasible in
+    let shows = shown_by_walk law scheme.supply (staged scheme) plan.prices plan.flows (amount_of plan) fits.prices (joined_prices scheme plan.prices fits.prices) shown in
+    record {
+      least = duality scheme plan.prices plan.flows is_feasible shows;
+      cost_is = cost_by_walk law scheme.supply (staged scheme) plan.prices plan.flows (amount_of plan) shown;
+      shown = shows;
+    }
+
+pub proves_infeasible : ReducedByEnds → PricesExclude → (scheme : Scheme) (plan : Plan) → InfeasibleFits scheme plan → infeasible_refusal scheme.supply (staged scheme) plan.prices (amount_of plan) ≡ None → ProvesInfeasible scheme plan (amount_of plan)
+proves_infeasible law exclude scheme plan fits none =
+    let forbids = forbidden_by_walk law scheme.supply (staged scheme) plan.prices (amount_of plan) fits.prices (joined_prices scheme plan.prices fits.prices) none in
+    record { forbid = forbids.0; gap_is = forbids.1; none = exclude scheme plan.prices forbids.0 }
+
+pub proves_unbounded : RaysProve → (scheme : Scheme) (plan : Plan) → UnboundedFits scheme plan → feasible_refusal (length scheme.nodes) scheme.supply (staged scheme) plan.flows ≡ None
+    → falling_refusal (length scheme.nodes) scheme.supply (staged scheme) plan.ray ≡ None → ProvesUnbounded scheme plan
+proves_unbounded law scheme plan fits feasible falling =
+    let is_feasible : IsFeasiblePlan scheme plan.flows = feasible_by_walk (length scheme.nodes) scheme.supply (staged scheme) plan.flows fits.flows feasible in
+    let falls = falls_by_walk (length scheme.nodes) scheme.supply (staged scheme) plan.flows plan.ray fits.ray is_feasible falling in
+    record { falls = falls; cheaper = law scheme plan.flows plan.ray falls }

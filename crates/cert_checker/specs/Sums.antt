@@ -1,31 +1,67 @@
--- The walk over plain lists: clauses of values that are known, and all clauses of flows in the only period.
-use Rattle.std.specs.Prelude.{ℕ, not, ◌&&◌, ◌||◌, Bool, Option, Some, Result, List}
-use Rattle.std.specs.List.{zip, enumerate_from}
+-- The walk over the lists that the checker keeps: clauses of values that are known.
+use Rattle.std.specs.Prelude.{ℕ, not, ◌&&◌, Bool, if◌then◌else◌, Option, Some, None, Result, Ok, IsOk, List}
+use Rattle.std.specs.List.{fold}
 use Rattle.np_frac.specs.Ratio.{Ratio, zero_ratio, is_below}
 use Rattle.np_frac.specs.Order.{ratio_eq}
+use Rattle.np_frac.specs.Exact.{plus_of, minus_of, times_of}
 use Rattle.np_frac.specs.declared.frac.Past.{Past}
-use Rattle.np_model.specs.declared.plan.CheckRow.TheVariants.{C1}
-use Rattle.cert_checker.specs.Walk.{tested, refused_if, reject_node, or_then, first_refusal, balance_clause, bound_clause, reduced_clause, cost_clause}
-use Rattle.cert_checker.specs.Plain.{plain_stages}
-use Rattle.np_model.specs.declared.scheme.Flow.{Flow}
-use Rattle.cert_checker.specs.declared.answer.Clause.TheVariants.{Reduced}
+use Rattle.np_model.specs.declared.arc.Upper.{Upper}
+use Rattle.np_model.specs.declared.arc.Upper.TheVariants.{Finite, Infinite}
+use Rattle.np_model.specs.declared.plan.CheckRow.{CheckRow}
+use Rattle.np_model.specs.declared.scheme.Band.{Band}
+use Rattle.np_model.specs.Stages.{Stage, Segment as TheSegment, end_after, lesser}
+use Rattle.cert_checker.specs.Walk.{◌▷◌, tested, refused_if, reject_node, balance_step, band_end, end_of, is_above, is_under, left_test, right_test}
+use Rattle.cert_checker.specs.declared.answer.Clause.{Clause}
 use Rattle.cert_checker.specs.declared.answer.CheckRefusal.{CheckRefusal}
-use Rattle.cert_checker.specs.declared.answer.CheckRefusal.TheVariants.{Reject}
+use Rattle.cert_checker.specs.declared.staged.StagedArc.{StagedArc}
+use Rattle.cert_checker.specs.declared.segment.Segment.{Segment}
+use Rattle.cert_checker.specs.declared.reduced.Side.{Side}
+use Rattle.cert_checker.specs.declared.reduced.Side.TheVariants.{Left, Right}
 
--- the clause of balance at a node
-abbrev pub sum_clause : ℕ → ℕ × (Ratio × Result Ratio Past) → Option CheckRefusal
-sum_clause k (v, (supply, sum)) = tested C1 sum (λ found. refused_if (not (ratio_eq found supply)) (reject_node k v))
+-- the balance of a node over the arcs that the checker keeps
+abbrev pub arcs_balance : List (StagedArc × Ratio) → ℕ → Result Ratio Past
+arcs_balance pairs v = fold (λ running (arc, x). running ▷ balance_step v arc.ends x) (Ok zero_ratio) pairs
 
--- the clause of reduced costs at a flow in the only period, whose reduced cost is known
-abbrev pub sign_clause : ℕ → Bool → Bool → Ratio → Option CheckRefusal
-sign_clause number could_fall could_rise r =
-    refused_if ((could_fall && is_below zero_ratio r) || (could_rise && is_below r zero_ratio)) (Reject Reduced (Some number) 1)
+-- the clause of balance at a node whose sum is known
+abbrev pub sum_clause : CheckRow → Clause → ℕ → ℕ × (Ratio × Result Ratio Past) → Option CheckRefusal
+sum_clause row clause k (v, (wanted, sum)) = tested row sum (λ found. refused_if (not (ratio_eq found wanted)) (reject_node clause k v))
 
--- the refusal of the whole walk, over the flows of a plain scheme with k nodes
-abbrev pub plain_refusal : ℕ → List Ratio → List Flow → List Ratio → List Ratio → Ratio → Option CheckRefusal
-plain_refusal k supply flows amounts prices cost =
-    let pairs = zip (plain_stages flows) amounts in
-    or_then (first_refusal (balance_clause k pairs) (enumerate_from 0 supply))
-    (or_then (first_refusal bound_clause pairs)
-    (or_then (first_refusal (reduced_clause prices) pairs)
-    (cost_clause pairs cost)))
+-- the end of a band of this width beyond an end
+abbrev pub end_beyond : Upper → Upper → Result Upper Past
+end_beyond Infinite width = Ok Infinite
+end_beyond (Finite end) width = band_end end width
+
+-- the segment that a band adds beyond an end
+abbrev pub segment_beyond : Upper → Band → Option TheSegment
+segment_beyond Infinite band = None
+segment_beyond (Finite end) band = Some (record { start = end; end = end_after end band.width; slope = band.slope })
+
+abbrev pub as_segment : Segment → TheSegment
+as_segment g = record { start = g.start; end = g.end; slope = g.slope }
+
+-- the segment is the one on this side of the amount
+abbrev pub is_beside : Side → Ratio → TheSegment → Bool
+is_beside Left x g = is_below g.start x && not (is_above x g.end)
+is_beside Right x g = not (is_below x g.start) && is_under x g.end
+
+-- the sign that a reduced cost may not have on this side
+abbrev pub has_wrong_sign : Side → Ratio → Bool
+has_wrong_sign Left r = is_below zero_ratio r
+has_wrong_sign Right r = is_below r zero_ratio
+
+abbrev pub side_test : Side → List Ratio → Stage → Ratio → TheSegment → Option CheckRefusal
+side_test Left p s x g = left_test p s x g
+side_test Right p s x g = right_test p s x g
+
+-- the running cost with what the amount costs in a segment beyond the first
+abbrev pub add_segment : Ratio → TheSegment → Ratio → Result Ratio Past
+add_segment x g running =
+    if is_below g.start x then (minus_of (lesser x g.end) g.start ▷ λ part. times_of g.slope part ▷ λ cost. plus_of running cost) else Ok running
+
+abbrev pub map_segment : Option Segment → Option TheSegment
+map_segment None = None
+map_segment (Some g) = Some (as_segment g)
+
+-- no end of a segment passes
+abbrev pub HasEnds : Stage → Type 0
+HasEnds s = IsOk (end_of s.upper s.bands)

@@ -1,6 +1,7 @@
--- The walk of the checker over an optimal plan: its clauses by place, and the first of them that fails or whose arithmetic passes.
+-- The walk of the checker over a plan: the clauses of each verdict by place, and the first of them that fails or whose arithmetic
+-- passes.
 -- (This project's own.)
-use Rattle.std.specs.Prelude.{◌≡◌, ℕ, ◌+◌, ◌/◌, ◌%◌, ◌==◌, ◌&&◌, ◌||◌, not, Bool, true, false, if◌then◌else◌, Option, Some, None, Result, Ok, Err, unwrap_or, List, [], ◌∷◌, length}
+use Rattle.std.specs.Prelude.{◌≡◌, ℕ, ◌+◌, ◌/◌, ◌%◌, ◌==◌, ◌&&◌, ◌||◌, not, Bool, true, false, if◌then◌else◌, Option, Some, None, Result, Ok, Err, unwrap_or, List, [], ◌∷◌, length, map}
 use Rattle.std.specs.List.{fold, zip, enumerate_from}
 use Rattle.np_frac.specs.Ratio.{Ratio, zero_ratio, is_below}
 use Rattle.np_frac.specs.Order.{ratio_eq}
@@ -14,14 +15,17 @@ use Rattle.np_model.specs.declared.scheme.Band.{Band}
 use Rattle.np_model.specs.declared.scheme.Scheme.{Scheme}
 use Rattle.np_model.specs.declared.plan.Plan.{Plan}
 use Rattle.np_model.specs.declared.plan.CheckRow.{CheckRow}
-use Rattle.np_model.specs.declared.plan.CheckRow.TheVariants.{C1, C2, C3, C4}
-use Rattle.np_model.specs.Network.{at}
-use Rattle.np_model.specs.Stages.{Stage, Segment, segments, segments_beyond, lesser}
+use Rattle.np_model.specs.declared.plan.Verdict.{Verdict}
+use Rattle.np_model.specs.declared.plan.Verdict.TheVariants as verdict
+use Rattle.np_model.specs.declared.plan.CheckRow.TheVariants.{C1, C2, C3, C4, C5, C6}
+use Rattle.np_model.specs.Network.{at, bound_of}
+use Rattle.np_model.specs.Stages.{Stage, Segment, segments, segments_beyond, last_end, last_slope, lesser}
 use Rattle.np_model.specs.Schemes.{staged}
 use Rattle.cert_checker.specs.declared.answer.Clause.{Clause}
-use Rattle.cert_checker.specs.declared.answer.Clause.TheVariants.{Balance, Bound, Reduced, Cost}
+use Rattle.cert_checker.specs.declared.answer.Clause.TheVariants.{Balance, Bound, Reduced, Cost, Gap, RaySign, RayUpper, RayBalance, RayCost, Uncertified}
+use Rattle.cert_checker.specs.declared.answer.Clause.TheVariants as clauses
 use Rattle.cert_checker.specs.declared.answer.Checked.{Checked}
-use Rattle.cert_checker.specs.declared.answer.Checked.TheVariants.{Optimal}
+use Rattle.cert_checker.specs.declared.answer.Checked.TheVariants.{Optimal, Infeasible, Unbounded}
 use Rattle.cert_checker.specs.declared.answer.CheckRefusal.{CheckRefusal}
 use Rattle.cert_checker.specs.declared.answer.CheckRefusal.TheVariants.{Reject}
 use Rattle.cert_checker.specs.declared.answer.CheckRefusal.TheVariants as refusal
@@ -64,12 +68,17 @@ abbrev pub balance_of : List (Stage × Ratio) → ℕ → Result Ratio Past
 balance_of pairs v = fold (λ running (s, x). running ▷ balance_step v s.ends x) (Ok zero_ratio) pairs
 
 -- with k nodes, the refusal at an expanded node
-abbrev pub reject_node : ℕ → ℕ → CheckRefusal
-reject_node k v = Reject Balance (Some (v % k)) (v / k + 1)
+abbrev pub reject_node : Clause → ℕ → ℕ → CheckRefusal
+reject_node clause k v = Reject clause (Some (v % k)) (v / k + 1)
 
--- the balance of a node is its supply
-abbrev pub balance_clause : ℕ → List (Stage × Ratio) → ℕ × Ratio → Option CheckRefusal
-balance_clause k pairs (v, supply) = tested C1 (balance_of pairs v) (λ sum. refused_if (not (ratio_eq sum supply)) (reject_node k v))
+-- the balance of a node is what is wanted there
+abbrev pub node_clause : CheckRow → Clause → ℕ → List (Stage × Ratio) → ℕ × Ratio → Option CheckRefusal
+node_clause row clause k pairs (v, wanted) =
+    tested row (balance_of pairs v) (λ sum. refused_if (not (ratio_eq sum wanted)) (reject_node clause k v))
+
+-- each node balances its supply
+abbrev pub balance_clauses : ℕ → List (Stage × Ratio) → List Ratio → Option CheckRefusal
+balance_clauses k pairs supply = first_refusal (node_clause C1 Balance k pairs) (enumerate_from 0 supply)
 
 -- ---- bounds, with the operations of C2
 
@@ -145,19 +154,106 @@ cost_of pairs = fold (λ running pair. running ▷ add_cost pair) (Ok zero_ratio
 abbrev pub cost_clause : List (Stage × Ratio) → Ratio → Option CheckRefusal
 cost_clause pairs amount = tested C4 (cost_of pairs) (λ sum. refused_if (not (ratio_eq sum amount)) (Reject Cost None 0))
 
+-- ---- no plan, with the operations of C3, C2 and C5
+
+abbrev pub is_finite : Upper → Bool
+is_finite (Finite u) = true
+is_finite Infinite = false
+
+-- at costs of 0 the reduced cost is not below 0, or the last end is finite
+abbrev pub upper_clause : List Ratio → Stage → Option CheckRefusal
+upper_clause p s =
+    tested C3 (price_of p s.ends zero_ratio) (λ r. refused_if (is_below r zero_ratio && not (is_finite (last_end s.upper s.bands))) (reject_stage clauses.Upper s))
+
+-- the last end of a staged arc is found
+abbrev pub end_clause : Stage → Option CheckRefusal
+end_clause s = tested C2 (end_of s.upper s.bands) (λ end. None)
+
+-- the running gap with the supply of a node at its price
+abbrev pub add_supply : List Ratio → ℕ × Ratio → Ratio → Result Ratio Past
+add_supply supply (v, price) running = times_of price (at supply v) ▷ plus_of running
+
+-- what an amount of a staged arc is worth at least, at this reduced cost: at the lower bound where it is above 0, at the last end
+-- where it is below 0
+abbrev pub add_worth : Stage → Ratio → Ratio → Result Ratio Past
+add_worth s r running =
+    if is_below zero_ratio r then (times_of r s.lower ▷ plus_of running)
+    else (if is_below r zero_ratio then (end_of s.upper s.bands ▷ λ end. times_of r (bound_of end) ▷ plus_of running) else Ok running)
+
+-- the running gap with that of a staged arc
+abbrev pub add_least : List Ratio → Stage → Ratio → Result Ratio Past
+add_least p s running = price_of p s.ends zero_ratio ▷ λ r. add_worth s r running
+
+-- nodes by number, then staged arcs in order
+abbrev pub gap_of : List Ratio → List Stage → List Ratio → Result Ratio Past
+gap_of supply stages p =
+    fold (λ running s. running ▷ add_least p s) (fold (λ running node. running ▷ add_supply supply node) (Ok zero_ratio) (enumerate_from 0 p)) stages
+
+-- the gap is above 0, and is the amount that the plan gives
+abbrev pub gap_clause : List Ratio → List Stage → List Ratio → Ratio → Option CheckRefusal
+gap_clause supply stages p amount =
+    tested C5 (gap_of supply stages p) (λ sum. refused_if (not (is_below zero_ratio sum) || not (ratio_eq sum amount)) (Reject Gap None 0))
+
+-- ---- no least plan, with the operations of C6
+
+-- the amount of the ray is not below 0, and where it is above 0 the last end is infinite
+abbrev pub ray_clause : Stage × Ratio → Option CheckRefusal
+ray_clause (s, d) =
+    or_then (refused_if (is_below d zero_ratio) (reject_stage RaySign s))
+    (refused_if (is_below zero_ratio d && is_finite (last_end s.upper s.bands)) (reject_stage RayUpper s))
+
+-- each node balances 0
+abbrev pub ray_balance_clauses : ℕ → List (Stage × Ratio) → List Ratio → Option CheckRefusal
+ray_balance_clauses k pairs supply = first_refusal (node_clause C6 RayBalance k pairs) (enumerate_from 0 (map (λ b. zero_ratio) supply))
+
+-- the running cost of the ray with that of a staged arc, at the slope of its last segment
+abbrev pub add_ray_cost : Stage × Ratio → Ratio → Result Ratio Past
+add_ray_cost (s, d) running = times_of (last_slope s.cost s.bands) d ▷ plus_of running
+
+abbrev pub ray_cost_of : List (Stage × Ratio) → Result Ratio Past
+ray_cost_of pairs = fold (λ running pair. running ▷ add_ray_cost pair) (Ok zero_ratio) pairs
+
+-- the cost of the ray is below 0
+abbrev pub ray_cost_clause : List (Stage × Ratio) → Option CheckRefusal
+ray_cost_clause pairs = tested C6 (ray_cost_of pairs) (λ sum. refused_if (not (is_below sum zero_ratio)) (Reject RayCost None 0))
+
 -- ---- the whole walk
+
+-- balance at each node, with k nodes in a period, then bounds at each staged arc
+abbrev pub feasible_refusal : ℕ → List Ratio → List Stage → List Ratio → Option CheckRefusal
+feasible_refusal k supply stages x =
+    let pairs = zip stages x in
+    or_then (balance_clauses k pairs supply) (first_refusal bound_clause pairs)
+
+-- reduced costs at each staged arc, then the cost
+abbrev pub shown_refusal : List Stage → List Ratio → List Ratio → Ratio → Option CheckRefusal
+shown_refusal stages x p amount =
+    let pairs = zip stages x in
+    or_then (first_refusal (reduced_clause p) pairs) (cost_clause pairs amount)
+
+abbrev pub optimal_refusal : ℕ → List Ratio → List Stage → List Ratio → List Ratio → Ratio → Option CheckRefusal
+optimal_refusal k supply stages x p amount = or_then (feasible_refusal k supply stages x) (shown_refusal stages x p amount)
+
+-- upper bounds at each staged arc, then all ends, then the gap
+abbrev pub infeasible_refusal : List Ratio → List Stage → List Ratio → Ratio → Option CheckRefusal
+infeasible_refusal supply stages p amount =
+    or_then (first_refusal (upper_clause p) stages)
+    (or_then (first_refusal end_clause stages)
+    (gap_clause supply stages p amount))
+
+-- the ray's sign and upper bounds at each staged arc, its balance at each node, then its cost
+abbrev pub falling_refusal : ℕ → List Ratio → List Stage → List Ratio → Option CheckRefusal
+falling_refusal k supply stages d =
+    let pairs = zip stages d in
+    or_then (first_refusal ray_clause pairs)
+    (or_then (ray_balance_clauses k pairs supply)
+    (ray_cost_clause pairs))
+
+abbrev pub unbounded_refusal : ℕ → List Ratio → List Stage → List Ratio → List Ratio → Option CheckRefusal
+unbounded_refusal k supply stages x d = or_then (feasible_refusal k supply stages x) (falling_refusal k supply stages d)
 
 abbrev pub amount_of : Plan → Ratio
 amount_of plan = unwrap_or plan.amount zero_ratio
-
--- balance at each node, then bounds and then reduced costs at each staged arc, then the cost
-abbrev pub walk_refusal : Scheme → Plan → Option CheckRefusal
-walk_refusal scheme plan =
-    let pairs = zip (staged scheme) plan.flows in
-    or_then (first_refusal (balance_clause (length scheme.nodes) pairs) (enumerate_from 0 scheme.supply))
-    (or_then (first_refusal bound_clause pairs)
-    (or_then (first_refusal (reduced_clause plan.prices) pairs)
-    (cost_clause pairs (amount_of plan))))
 
 abbrev pub accepted_unless : {A : Type 0} → Option CheckRefusal → A → Result A CheckRefusal
 accepted_unless None x = Ok x
@@ -167,9 +263,20 @@ accepted_unless (Some refusal) x = Err refusal
 abbrev pub goes_on_unless : Option CheckRefusal → Result (Unit {0}) CheckRefusal
 goes_on_unless refusal = accepted_unless refusal tt
 
--- what the checker answers on an optimal plan: its amount, or the first refusal
+-- what the checker answers on a plan of each verdict
+abbrev pub walk_as : Verdict → Scheme → Plan → Result Checked CheckRefusal
+walk_as verdict.Optimal scheme plan =
+    accepted_unless (optimal_refusal (length scheme.nodes) scheme.supply (staged scheme) plan.flows plan.prices (amount_of plan)) (Optimal (amount_of plan))
+walk_as verdict.Infeasible scheme plan =
+    accepted_unless (infeasible_refusal scheme.supply (staged scheme) plan.prices (amount_of plan)) (Infeasible (amount_of plan))
+walk_as verdict.Unbounded scheme plan =
+    accepted_unless (unbounded_refusal (length scheme.nodes) scheme.supply (staged scheme) plan.flows plan.ray) Unbounded
+walk_as verdict.Budget scheme plan = Err (Reject Uncertified None 0)
+walk_as verdict.Overflow scheme plan = Err (Reject Uncertified None 0)
+
+-- what the checker answers: what the plan was shown to be, or the first refusal
 unfoldable pub walk : Scheme → Plan → Result Checked CheckRefusal
-walk scheme plan = accepted_unless (walk_refusal scheme plan) (Optimal (amount_of plan))
+walk scheme plan = walk_as plan.verdict scheme plan
 
 -- ---- what an answer means
 

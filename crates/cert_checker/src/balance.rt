@@ -1,36 +1,22 @@
 //! The balance of flows at the nodes.
 
-ghost use Rattle.std.specs.Prelude.{◌≡◌, ℕ, ◌+◌, ◌-◌, ◌*◌, ◌/◌, ◌%◌, ◌<◌, ◌≤◌, ◌^◌, Result, Ok, Err, length, slice_index_or, IfOk};
+ghost use Rattle.std.specs.Prelude.{◌≡◌, ℕ, ◌+◌, ◌-◌, ◌*◌, ◌/◌, ◌%◌, ◌<◌, ◌≤◌, ◌^◌, Result, Ok, Err, List, length, slice_index_or, IfOk};
 ghost use Rattle.std.specs.List.{enumerate_from, zip, All};
 ghost use Rattle.np_frac.specs.Exact.{plus_of, minus_of, times_of};
 ghost use Rattle.np_model.specs.declared.arc.Ends.{Ends as TheEnds};
+ghost use Rattle.np_model.specs.declared.scheme.Flow.{Flow as TheFlow};
 ghost use Rattle.np_frac.specs.declared.frac.Past.{Past as ThePast};
 ghost use Rattle.np_frac.specs.Ratio.{Ratio, zero_ratio};
-ghost use Rattle.cert_checker.specs.Walk.{◌▷◌, balance_step, balance_of, balance_clause, first_refusal, goes_on_unless, UnlessMemory};
-ghost use Rattle.cert_checker.specs.Sums.{sum_clause};
-ghost use Rattle.cert_checker.specs.Plain.{AreNodes, IsPlainFlow, plain_ends, plain_stages};
-ghost use Rattle.np_model.specs.Valid.{IsSound};
+ghost use Rattle.cert_checker.specs.Walk.{◌▷◌, balance_step, node_clause, first_refusal, goes_on_unless, UnlessMemory};
+ghost use Rattle.cert_checker.specs.Sums.{sum_clause, arcs_balance};
+ghost use Rattle.cert_checker.specs.Plain.{AreNodes};
+ghost use Rattle.cert_checker.specs.Arcs.{stages_of};
 
 use crate::answer::{CheckRefusal, Clause};
+use crate::staged::StagedArc;
 use np_frac::{Frac, Memory, Past};
-use np_model::{CheckRow, Ends, Flow, FlowKind};
+use np_model::{CheckRow, Ends};
 use std::alloc::Global;
-
-/// The ends of a flow within the only period. (A hold has none there, and what is answered for it is not used.)
-pub fn ends_of(kind: FlowKind) -> Ends
-    ensures { result ≡ plain_ends kind }
-{
-    match kind {
-        FlowKind::Link { from, to, gain } => Ends::Link { from, to, gain },
-        FlowKind::Hold { node, gain } => Ends::Link {
-            from: node,
-            to: node,
-            gain,
-        },
-        FlowKind::Drain { node } => Ends::Drain(node),
-        FlowKind::Feed { node } => Ends::Feed(node),
-    }
-}
 
 // The running balance after more flow out of the node.
 fn with_outflow(running: Result<Frac, Past>, amount: Frac) -> Result<Frac, Past>
@@ -77,103 +63,107 @@ fn add_flow(running: &mut [Result<Frac, Past>], ends: Ends, amount: Frac)
     }
 }
 
-// The running balance of each node over the flows: the sum, or its first operation that passes.
+// The running balance of each node over the staged arcs: the sum, or its first operation that passes.
 fn balances(
     alloc: Global,
     nodes: usize,
-    flows: &[Flow],
+    arcs: &[StagedArc],
     amounts: &[Frac],
 ) -> Result<Vec<Result<Frac, Past>>, Memory>
-    requires long { length amounts.now ≡ length flows.now }
-    requires sound { All (IsSound nodes) flows.now }
-    requires plain { All IsPlainFlow flows.now }
+    requires long { length amounts.now ≡ length arcs.now }
+    requires joined { All (λ arc. AreNodes nodes arc.ends) arcs.now }
     ensures each { IfOk result (λ sums. length sums.items ≡ nodes) }
     ensures sums { IfOk result (λ sums. (v : ℕ) (d : Result Ratio ThePast) → v < nodes
-        → slice_index_or sums.items v d ≡ balance_of (zip (plain_stages flows.now) amounts.now) v) }
+        → slice_index_or sums.items v d ≡ arcs_balance (zip arcs.now amounts.now) v) }
 {
     let mut sums = Vec::with_capacity(alloc, nodes)?;
     for _ in 0..nodes {
         sums.push(Ok(Frac::whole(0)))?;
     }
-    add_flows(&mut sums, flows, amounts);
+    add_flows(&mut sums, arcs, amounts);
     Ok(sums)
 }
 
 // Adds all flows to balances that begin at 0.
-fn add_flows(sums: &mut [Result<Frac, Past>], flows: &[Flow], amounts: &[Frac])
-    requires long { length amounts.now ≡ length flows.now }
-    requires sound { All (IsSound (length sums.old)) flows.now }
-    requires plain { All IsPlainFlow flows.now }
+fn add_flows(sums: &mut [Result<Frac, Past>], arcs: &[StagedArc], amounts: &[Frac])
+    requires long { length amounts.now ≡ length arcs.now }
+    requires joined { All (λ arc. AreNodes (length sums.old) arc.ends) arcs.now }
     requires zero { (v : ℕ) (d : Result Ratio ThePast) → v < length sums.old → slice_index_or sums.old v d ≡ Ok zero_ratio }
     ensures { (v : ℕ) (d : Result Ratio ThePast) → v < length sums.old
-        → slice_index_or sums.new v d ≡ balance_of (zip (plain_stages flows.now) amounts.now) v }
+        → slice_index_or sums.new v d ≡ arcs_balance (zip arcs.now amounts.now) v }
 {
-    for i in 0..flows.len() {
-        add_flow(sums, ends_of(flows[i].kind), amounts[i]);
+    for i in 0..arcs.len() {
+        add_flow(sums, arcs[i].ends, amounts[i]);
     }
 }
 
-// Whether the sum of a node is its supply.
+/// Which balance is walked: the row of its arithmetic, the clause that it is told as, and how many nodes a period has.
+#[derive(Clone, Copy, Debug)]
+pub struct Balancing {
+    pub row: CheckRow,
+    pub clause: Clause,
+    pub nodes: usize,
+}
+
+// Whether the sum of a node is what is wanted there.
 fn check_sum(
-    nodes: usize,
+    by: Balancing,
     node: usize,
-    supply: Frac,
+    wanted: Frac,
     sum: Result<Frac, Past>,
 ) -> Result<(), CheckRefusal>
-    requires some { 0 < nodes }
+    requires some { 0 < by.nodes }
     requires few { node < 2 ^ 32 - 1 }
-    ensures { result ≡ goes_on_unless (sum_clause nodes (node, (supply, sum))) }
+    ensures { result ≡ goes_on_unless (sum_clause by.row by.clause by.nodes (node, (wanted, sum))) }
 {
     match sum {
         Ok(sum) => {
-            if sum.is_same(supply) {
+            if sum.is_same(wanted) {
                 return Ok(());
             }
             Err(CheckRefusal::Reject {
-                clause: Clause::Balance,
-                name: Some((node % nodes) as u32),
-                period: (node / nodes) as u32 + 1,
+                clause: by.clause,
+                name: Some((node % by.nodes) as u32),
+                period: (node / by.nodes) as u32 + 1,
             })
         }
-        Err(past) => Err(CheckRefusal::Past {
-            row: CheckRow::C1,
-            past,
-        }),
+        Err(past) => Err(CheckRefusal::Past { row: by.row, past }),
     }
 }
 
-// Whether each sum is the supply of its node.
+// Whether each sum is what is wanted at its node.
 fn check_sums(
-    nodes: usize,
-    supply: &[Frac],
+    by: Balancing,
+    wanted: &[Frac],
     sums: &[Result<Frac, Past>],
 ) -> Result<(), CheckRefusal>
-    requires each { length sums.now ≡ length supply.now }
-    requires some { 0 < length supply.now → 0 < nodes }
-    requires few { length supply.now < 2 ^ 32 }
-    ensures { result ≡ goes_on_unless (first_refusal (sum_clause nodes) (enumerate_from 0 (zip supply.now sums.now))) }
+    requires each { length sums.now ≡ length wanted.now }
+    requires some { 0 < length wanted.now → 0 < by.nodes }
+    requires few { length wanted.now < 2 ^ 32 }
+    ensures { result ≡ goes_on_unless (first_refusal (sum_clause by.row by.clause by.nodes) (enumerate_from 0 (zip wanted.now sums.now))) }
 {
-    for node in 0..supply.len() {
-        check_sum(nodes, node, supply[node], sums[node])?;
+    for node in 0..wanted.len() {
+        check_sum(by, node, wanted[node], sums[node])?;
     }
     Ok(())
 }
 
-/// Whether the flows balance at each node: the first node at which they do not, or at which an operation passes.
+/// Whether the amounts of the staged arcs balance what is wanted at each node: the first node at which they do not, or at
+/// which an operation passes.
 pub fn check_balance(
     alloc: Global,
-    nodes: usize,
-    supply: &[Frac],
-    flows: &[Flow],
+    by: Balancing,
+    wanted: &[Frac],
+    arcs: &[StagedArc],
     amounts: &[Frac],
 ) -> Result<(), CheckRefusal>
-    requires long { length amounts.now ≡ length flows.now }
-    requires sound { All (IsSound nodes) flows.now }
-    requires plain { All IsPlainFlow flows.now }
-    requires each { length supply.now ≡ nodes }
-    requires few { nodes < 2 ^ 32 }
-    ensures { UnlessMemory result (goes_on_unless (first_refusal (balance_clause nodes (zip (plain_stages flows.now) amounts.now)) (enumerate_from 0 supply.now))) }
+    requires long { length amounts.now ≡ length arcs.now }
+    requires joined { All (λ arc. AreNodes (length wanted.now) arc.ends) arcs.now }
+    requires some { 0 < length wanted.now → 0 < by.nodes }
+    requires few { length wanted.now < 2 ^ 32 }
+    ensures { (flows : List TheFlow)
+        → UnlessMemory result (goes_on_unless (first_refusal (node_clause by.row by.clause by.nodes (zip (stages_of flows arcs.now) amounts.now)) (enumerate_from 0 wanted.now))) }
 {
-    let sums = balances(alloc, nodes, flows, amounts)?;
-    check_sums(nodes, supply, &sums)
+    let sums = balances(alloc, wanted.len(), arcs, amounts)?;
+    check_sums(by, wanted, &sums)
 }

@@ -1,58 +1,47 @@
 //! The bounds of the flows.
 
-ghost use Rattle.std.specs.Prelude.{◌≡◌, ◌<◌, ◌^◌, length};
+ghost use Rattle.std.specs.Prelude.{◌≡◌, ◌<◌, length};
 ghost use Rattle.std.specs.List.{All, zip};
-ghost use Rattle.cert_checker.specs.Walk.{is_above as above_of, is_under as under_of, bound_clause, first_refusal, goes_on_unless};
-ghost use Rattle.cert_checker.specs.Plain.{IsPlainFlow, plain_stage, plain_stages};
+ghost use Rattle.cert_checker.specs.Walk.{bound_clause, first_refusal, goes_on_unless};
+ghost use Rattle.cert_checker.specs.Arcs.{stage_with, stages_of};
 
 use crate::answer::{CheckRefusal, Clause};
+use crate::segment::{is_above, last_end};
+use crate::staged::StagedArc;
 use np_frac::Frac;
-use np_model::{Flow, Upper};
+use np_model::{CheckRow, Flow};
 
-/// Whether the amount is above the bound.
-pub fn is_above(amount: Frac, bound: Upper) -> bool
-    ensures { result ≡ above_of amount bound }
+// Whether a flow is at least its lower bound and at most its last end.
+fn check_bound(arc: &StagedArc, flow: &Flow, amount: Frac) -> Result<(), CheckRefusal>
+    ensures { result ≡ goes_on_unless (bound_clause (stage_with arc.now flow.now, amount)) }
 {
-    match bound {
-        Upper::Finite(most) => most.is_below(amount),
-        Upper::Infinite => false,
+    match last_end(flow) {
+        Ok(end) => {
+            if amount.is_below(flow.lower) || is_above(amount, end) {
+                return Err(arc.reject(Clause::Bound));
+            }
+            Ok(())
+        }
+        Err(past) => Err(CheckRefusal::Past {
+            row: CheckRow::C2,
+            past,
+        }),
     }
 }
 
-/// Whether the amount is below the bound.
-pub fn is_under(amount: Frac, bound: Upper) -> bool
-    ensures { result ≡ under_of amount bound }
+/// Whether all flows keep their bounds: the first that does not, or whose ends pass.
+pub fn check_bounds(
+    flows: &[Flow],
+    arcs: &[StagedArc],
+    amounts: &[Frac],
+) -> Result<(), CheckRefusal>
+    requires long { length amounts.now ≡ length arcs.now }
+    requires there { All (λ arc. arc.flow < length flows.now) arcs.now }
+    ensures { result ≡ goes_on_unless (first_refusal bound_clause (zip (stages_of flows.now arcs.now) amounts.now)) }
 {
-    match bound {
-        Upper::Finite(most) => amount.is_below(most),
-        Upper::Infinite => true,
-    }
-}
-
-// Whether a flow keeps its bounds.
-fn check_flow(number: u32, flow: &Flow, amount: Frac) -> Result<(), CheckRefusal>
-    requires { IsPlainFlow flow.now }
-    ensures { result ≡ goes_on_unless (bound_clause (plain_stage (number, flow.now), amount)) }
-{
-    if amount.is_below(flow.lower) || is_above(amount, flow.upper) {
-        return Err(CheckRefusal::Reject {
-            clause: Clause::Bound,
-            name: Some(number),
-            period: 1,
-        });
-    }
-    Ok(())
-}
-
-/// Whether all flows keep their bounds: the first that does not.
-pub fn check_bounds(flows: &[Flow], amounts: &[Frac]) -> Result<(), CheckRefusal>
-    requires long { length amounts.now ≡ length flows.now }
-    requires plain { All IsPlainFlow flows.now }
-    requires few { length flows.now < 2 ^ 32 }
-    ensures { result ≡ goes_on_unless (first_refusal bound_clause (zip (plain_stages flows.now) amounts.now)) }
-{
-    for i in 0..flows.len() {
-        check_flow(i as u32, &flows[i], amounts[i])?;
+    for i in 0..arcs.len() {
+        let arc = &arcs[i];
+        check_bound(arc, &flows[arc.flow as usize], amounts[i])?;
     }
     Ok(())
 }

@@ -6,7 +6,11 @@ mod answer;
 mod balance;
 mod bound;
 mod cost;
+mod gap;
+mod ray;
 mod reduced;
+mod segment;
+mod staged;
 mod walk;
 
 pub use answer::{CheckRefusal, Checked, Clause};

@@ -29,7 +29,7 @@ lesser_least : (z x : Ratio) (e : Upper) → z ≤ᵣ x → IsAtMost z e → z �
 lesser_least z x Infinite h k = h
 lesser_least z x (Finite u) h k = if_below (λ r. z ≤ᵣ r) u x u x (λ _. k) (λ _. h)
 
-lesser_mono : (x y : Ratio) (e : Upper) → x ≤ᵣ y → lesser x e ≤ᵣ lesser y e
+pub lesser_mono : (x y : Ratio) (e : Upper) → x ≤ᵣ y → lesser x e ≤ᵣ lesser y e
 lesser_mono x y Infinite h = h
 lesser_mono x y (Finite u) h =
     if_below (λ r. lesser x (Finite u) ≤ᵣ r) u y u y (λ _. lesser_within x u)
@@ -45,24 +45,24 @@ under_after : (x y : Ratio) (e : Upper) → x ≤ᵣ y → IsUnder y e → IsUnd
 under_after x y Infinite h k = tt
 under_after x y (Finite u) h k = ≤ᵣ-<ᵣ_trans h k
 
-under_end_after : (start : Ratio) (width : Upper) → IsUnder zero_ratio width → IsUnder start (end_after start width)
+pub under_end_after : (start : Ratio) (width : Upper) → IsUnder zero_ratio width → IsUnder start (end_after start width)
 under_end_after start Infinite h = tt
 under_end_after start (Finite w) h = grows start w h
 
 -- ---- the part of an amount in a segment
 
-abbrev part : Ratio → Upper → Ratio → Ratio → Ratio
+abbrev pub part : Ratio → Upper → Ratio → Ratio → Ratio
 part start end slope x = amount_in (record { start = start; end = end; slope = slope }) x
 
-part_none : (start : Ratio) (end : Upper) (slope x : Ratio) → x ≤ᵣ start → part start end slope x ≡ zero_ratio
+pub part_none : (start : Ratio) (end : Upper) (slope x : Ratio) → x ≤ᵣ start → part start end slope x ≡ zero_ratio
 part_none start end slope x h =
     if_below (λ r. r ≡ zero_ratio) start x (lesser x end -ᵣ start) zero_ratio (λ above. absurd (clash above h)) (λ _. refl)
 
-part_is : (start : Ratio) (end : Upper) (slope x : Ratio) → start <ᵣ x → part start end slope x ≡ lesser x end -ᵣ start
+pub part_is : (start : Ratio) (end : Upper) (slope x : Ratio) → start <ᵣ x → part start end slope x ≡ lesser x end -ᵣ start
 part_is start end slope x h =
     if_below (λ r. r ≡ lesser x end -ᵣ start) start x (lesser x end -ᵣ start) zero_ratio (λ _. refl) (λ k. absurd (clash h k))
 
-part_not_negative : (start : Ratio) (end : Upper) (slope x : Ratio) → IsUnder start end → zero_ratio ≤ᵣ part start end slope x
+pub part_not_negative : (start : Ratio) (end : Upper) (slope x : Ratio) → IsUnder start end → zero_ratio ≤ᵣ part start end slope x
 part_not_negative start end slope x h =
     if_below (λ r. zero_ratio ≤ᵣ r) start x (lesser x end -ᵣ start) zero_ratio
     (λ above. minus_not_negative (lesser_least start x end (<ᵣ_is_≤ᵣ above) (under_is_at_most start end h))) (λ _. ≤ᵣ_refl zero_ratio)
@@ -147,7 +147,20 @@ parts_are x slope Infinite (b ∷ bs) convex within = +ᵣ-zero x
 parts_are x slope (Finite e) (b ∷ bs) convex within =
     sym (+ᵣ_assoc _ _ _) ∙ rw (stretch x e b.slope b.width convex.1) (parts_are x b.slope (end_after e b.width) bs convex.2 within)
 
--- ---- what an amount costs beyond its price
+-- ---- what an amount costs beyond a price
+
+-- the cost of an amount with each slope less q
+abbrev pub cost_beyond : Ratio → Stage → Ratio → Ratio
+cost_beyond q s x = (s.cost -ᵣ q) *ᵣ lesser x s.upper +ᵣ total (λ g. (g.slope -ᵣ q) *ᵣ amount_in g x) (segments_beyond s.upper s.bands)
+
+pub cost_beyond_is : (q : Ratio) (s : Stage) (x : Ratio) → IsValid s → IsAtMost x (last_end s.upper s.bands) → cost_at s x ≡ cost_beyond q s x +ᵣ q *ᵣ x
+cost_beyond_is q s x valid within =
+    let gs = segments_beyond s.upper s.bands in
+    ap₂ (λ a b. a +ᵣ b) (split_by s.cost q (lesser x s.upper))
+    (total_each gs (λ g. split_by g.slope q (amount_in g x)) ∙ total-+ᵣ (λ g. (g.slope -ᵣ q) *ᵣ amount_in g x) (λ g. q *ᵣ amount_in g x) gs)
+    ∙ +ᵣ_middle _ _ _ _
+    ∙ ap (λ r. cost_beyond q s x +ᵣ r)
+    (rw (← *ᵣ-total (λ g. amount_in g x) q gs, ← *ᵣ-+ᵣ q (lesser x s.upper) (total (λ g. amount_in g x) gs), total_is (λ g. amount_in g x) gs, parts_are x s.cost s.upper s.bands valid.1 within) refl)
 
 -- the cost of an amount with reduced slopes
 abbrev net_cost : List Ratio → Stage → Ratio → Ratio
@@ -155,14 +168,7 @@ net_cost p s x =
     reduced p s.ends s.cost *ᵣ lesser x s.upper +ᵣ total (λ g. reduced p s.ends g.slope *ᵣ amount_in g x) (segments_beyond s.upper s.bands)
 
 cost_at_is : (p : List Ratio) (s : Stage) (x : Ratio) → IsValid s → IsAtMost x (last_end s.upper s.bands) → cost_at s x ≡ net_cost p s x +ᵣ pull p s.ends *ᵣ x
-cost_at_is p s x valid within =
-    let gs = segments_beyond s.upper s.bands in
-    let q : Ratio = pull p s.ends in
-    ap₂ (λ a b. a +ᵣ b) (split_by s.cost q (lesser x s.upper))
-    (total_each gs (λ g. split_by g.slope q (amount_in g x)) ∙ total-+ᵣ (λ g. (g.slope -ᵣ q) *ᵣ amount_in g x) (λ g. q *ᵣ amount_in g x) gs)
-    ∙ +ᵣ_middle _ _ _ _
-    ∙ ap (λ r. net_cost p s x +ᵣ r)
-    (rw (← *ᵣ-total (λ g. amount_in g x) q gs, ← *ᵣ-+ᵣ q (lesser x s.upper) (total (λ g. amount_in g x) gs), total_is (λ g. amount_in g x) gs, parts_are x s.cost s.upper s.bands valid.1 within) refl)
+cost_at_is p s x valid within = cost_beyond_is (pull p s.ends) s x valid within
 
 parts_least : (p : List Ratio) (ends : Ends) (x y : Ratio) (gs : List Segment) → AllByRecursion (Signed p ends x) gs → sum (λ g. reduced p ends g.slope *ᵣ amount_in g x) gs ≤ᵣ sum (λ g. reduced p ends g.slope *ᵣ amount_in g y) gs
 parts_least p ends x y [] h = ≤ᵣ_refl zero_ratio

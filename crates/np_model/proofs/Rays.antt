@@ -55,7 +55,7 @@ within_along t (a ∷ arcs) (x ∷ xs) [] s e f w n u = absurd (omega arith)
 within_along t (a ∷ arcs) (x ∷ xs) (d ∷ ds) s e f w n u =
     ((lower_along t a.lower x d s n.0 w.0.0, upper_along a.upper t x d n.0 u.0 w.0.1), within_along t arcs xs ds s (omega arith) (omega arith) w.1 n.1 u.1)
 
-feasible_along : (net : Network) (x d : List Ratio) (t : Ratio) → zero_ratio ≤ᵣ t → Ray net x d → Feasible net (along t x d)
+pub feasible_along : (net : Network) (x d : List Ratio) (t : Ratio) → zero_ratio ≤ᵣ t → Ray net x d → Feasible net (along t x d)
 feasible_along net x d t s r = record {
   one_each = length-along t (length net.arcs) x d r.feasible.one_each r.one_each;
   balanced = λ v h.

@@ -1,7 +1,7 @@
 -- Plans of a scheme: one amount for each staged arc. (This project's own.)
 use Rattle.std.specs.Prelude.{ℕ, ◌+◌, ◌-◌, ◌*◌, ◌==◌, ◌&&◌, if◌then◌else◌, Bool, true, false, Option, Some, None, List, length}
 use Rattle.std.specs.List.{flat_map, filter_map, range_with_len, enumerate_from}
-use Rattle.np_frac.specs.Ratio.{Ratio}
+use Rattle.np_frac.specs.Ratio.{Ratio, ◌<ᵣ◌}
 use Rattle.np_model.specs.declared.arc.Ends.{Ends}
 use Rattle.np_model.specs.declared.arc.Ends.TheVariants as ends
 use Rattle.np_model.specs.declared.scheme.FlowKind.{FlowKind}
@@ -67,3 +67,21 @@ price_gap scheme p = stages_gap scheme.supply (staged scheme) p
 -- a plan and a ray certify that every cost has a cheaper plan
 abbrev pub FallsAlong : Scheme → List Ratio → List Ratio → Type 0
 FallsAlong scheme x d = StagesRay scheme.supply (staged scheme) x d
+
+-- ---- the laws of schemes
+
+-- a feasible plan that prices show optimal is a least-cost plan
+abbrev pub PricesProve : Type 0
+PricesProve = (scheme : Scheme) (p x : List Ratio) → IsFeasiblePlan scheme x → PricesShow scheme p x → IsLeastPlan scheme x
+
+-- where prices certify it, no list of ratios is a feasible plan
+abbrev pub PricesExclude : Type 0
+PricesExclude = (scheme : Scheme) (p : List Ratio) → PricesForbid scheme p → (x : List Ratio) → IsFeasiblePlan scheme x → ⊥
+
+-- every cost has a feasible plan that costs less
+abbrev pub HasNoLeast : Scheme → Type 0
+HasNoLeast scheme = (c : Ratio) → (y : List Ratio) × IsFeasiblePlan scheme y × (scheme_cost scheme y <ᵣ c)
+
+-- where a plan and a ray certify it, every cost has a feasible plan that costs less
+abbrev pub RaysProve : Type 0
+RaysProve = (scheme : Scheme) (x d : List Ratio) → FallsAlong scheme x d → HasNoLeast scheme

@@ -124,6 +124,12 @@ StagesDuality =
     (supply : List Ratio) (stages : List Stage) (p x : List Ratio) → All IsValid stages → StagesFeasible supply stages x → StagesShow supply stages p x
     → StagesLeast supply stages x
 
+-- along a ray of staged arcs every cost is undercut by a feasible list of ratios, by the convex cost
+abbrev pub StagesFall : Type 0
+StagesFall =
+    (supply : List Ratio) (stages : List Stage) (x d : List Ratio) → All IsValid stages → StagesRay supply stages x d
+    → (c : Ratio) → (y : List Ratio) × StagesFeasible supply stages y × (stages_cost stages y <ᵣ c)
+
 -- ---- each of these facts has one proof at most
 
 pub IsAtMost-prop : (x : Ratio) (u : Upper) → IsProp (IsAtMost x u)

@@ -1,7 +1,8 @@
 //! The laws of generalised minimum-cost flow, as the clauses of functions that do nothing.
 
 ghost use Rattle.np_model.specs.Network.{ReducedByEnds, WeakDuality, NoPlan, Falls};
-ghost use Rattle.np_model.specs.Stages.{StagesDuality};
+ghost use Rattle.np_model.specs.Stages.{StagesDuality, StagesFall};
+ghost use Rattle.np_model.specs.Schemes.{PricesProve, PricesExclude, RaysProve};
 
 /// The reduced cost of a link from i to j with cost c and gain g is `c - p(i) + g * p(j)`, that of a drain at v `c - p(v)`, and
 /// that of a feed at v `c + p(v)`.
@@ -29,4 +30,25 @@ pub fn falls()
 /// are feasible, and potentials show them optimal segment by segment, no feasible list of ratios costs less.
 pub fn convex_duality()
     ensures { StagesDuality }
+{}
+
+/// Where the bounds of the staged arcs are in order and their slopes do not fall, every cost is undercut by a feasible plan
+/// along a ray of the staged arcs, by their convex cost.
+pub fn convex_falls()
+    ensures { StagesFall }
+{}
+
+/// A feasible plan of a scheme that prices show optimal, segment by segment, is a least-cost plan of the scheme.
+pub fn optimal_by_prices()
+    ensures { PricesProve }
+{}
+
+/// Where prices have a gap above 0, the scheme has no feasible plan.
+pub fn infeasible_by_prices()
+    ensures { PricesExclude }
+{}
+
+/// Where a scheme has a plan with a ray, every cost has a feasible plan of the scheme that costs less, by its convex cost.
+pub fn unbounded_by_ray()
+    ensures { RaysProve }
 {}

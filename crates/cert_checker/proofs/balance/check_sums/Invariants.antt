@@ -5,4 +5,4 @@ use Rattle.cert_checker.specs.Sums.{sum_clause}
 use Rattle.cert_checker.proofs.balance.check_sums.Given as goal
 
 abbrev pub invariant-loop-node : goal.invariant-loop-node
-invariant-loop-node l = first_refusal (sum_clause l.nodes) (take l.node (enumerate_from 0 (zip l.supply l.sums))) ≡ None
+invariant-loop-node l = first_refusal (sum_clause l.by.row l.by.clause l.by.nodes) (take l.node (enumerate_from 0 (zip l.wanted l.sums))) ≡ None

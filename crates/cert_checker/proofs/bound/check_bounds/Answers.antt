@@ -1,26 +1,20 @@
-use Rattle.std.proofs.Common.{◌<◌, length, arith}
+use Rattle.std.proofs.Common.{arith}
 use Rattle.std.proofs.lemmas.Result.{err_from_is_err_and}
 use Rattle.cert_checker.specs.Walk.{bound_clause}
-use Rattle.cert_checker.specs.Plain.{plain_stage}
-use Rattle.cert_checker.proofs.First.{goes_on, stops, finds_none}
-use Rattle.cert_checker.proofs.Pairs.{pairs_of, pair_at, length-pairs}
+use Rattle.cert_checker.proofs.Pairs.{Here, pairs_go_on, pairs_stop, pairs_end}
 use Rattle.cert_checker.proofs.bound.check_bounds.Goals as goal
 
 pub loop-i-preserved : goal.loop-i-preserved
 loop-i-preserved c =
-    let here : c.loop-i.i < length (pairs_of c.args.flows.now c.args.amounts.now) = omega (arith, length-pairs c.args.flows.now c.args.amounts.now c.requires.long) in
-    goes_on bound_clause (pairs_of c.args.flows.now c.args.amounts.now) c.loop-i.i (plain_stage (c.loop-i.i, c.index-flows-i.result), c.index-amounts-i.result) c.check_flow.result c.in_ok-check_flow.field-0 here
-    (pair_at c.args.flows.now c.args.amounts.now c.loop-i.i c.index-flows-i.result c.index-amounts-i.result c.requires.long c.loop-i-test.true c.index-flows-i.is c.index-amounts-i.is)
-    c.loop-i.invariant c.check_flow.ensures c.in_ok-check_flow.was
+    let h : Here c.args.flows.now c.args.arcs.now c.loop-i.i c.index-arcs-i.result c.index-flows-arc.result = record { there = c.requires.there; below = c.loop-i-test.true; arc_is = c.index-arcs-i.is; flow_is = c.index-flows-arc.is } in
+    pairs_go_on c.args.flows.now c.args.arcs.now c.loop-i.i c.index-arcs-i.result c.index-flows-arc.result h bound_clause c.args.amounts.now c.index-amounts-i.result c.check_bound.result c.in_ok-check_bound.field-0 c.requires.long c.index-amounts-i.is c.loop-i.invariant c.check_bound.ensures c.in_ok-check_bound.was
 
-pub returns-in_err-check_flow : goal.returns-in_err-check_flow
-returns-in_err-check_flow c =
+pub returns-in_err-check_bound : goal.returns-in_err-check_bound
+returns-in_err-check_bound c =
+    let h : Here c.args.flows.now c.args.arcs.now c.loop-i.i c.index-arcs-i.result c.index-flows-arc.result = record { there = c.requires.there; below = c.loop-i-test.true; arc_is = c.index-arcs-i.is; flow_is = c.index-flows-arc.is } in
     let p = err_from_is_err_and c.from_residual.result c.from_residual.ensures.1 in
-    let here : c.loop-i.i < length (pairs_of c.args.flows.now c.args.amounts.now) = omega (arith, length-pairs c.args.flows.now c.args.amounts.now c.requires.long) in
     rw (p.1, p.2)
-    (stops bound_clause (pairs_of c.args.flows.now c.args.amounts.now) c.loop-i.i (plain_stage (c.loop-i.i, c.index-flows-i.result), c.index-amounts-i.result) c.check_flow.result c.in_err-check_flow.field-0.0 here
-    (pair_at c.args.flows.now c.args.amounts.now c.loop-i.i c.index-flows-i.result c.index-amounts-i.result c.requires.long c.loop-i-test.true c.index-flows-i.is c.index-amounts-i.is)
-    c.loop-i.invariant c.check_flow.ensures c.in_err-check_flow.was)
+    (pairs_stop c.args.flows.now c.args.arcs.now c.loop-i.i c.index-arcs-i.result c.index-flows-arc.result h bound_clause c.args.amounts.now c.index-amounts-i.result c.check_bound.result c.in_err-check_bound.field-0.0 c.requires.long c.index-amounts-i.is c.loop-i.invariant c.check_bound.ensures c.in_err-check_bound.was)
 
 pub returns : goal.returns
-returns c = finds_none bound_clause (pairs_of c.args.flows.now c.args.amounts.now) c.loop-i.i (omega (arith, length-pairs c.args.flows.now c.args.amounts.now c.requires.long)) c.loop-i.invariant
+returns c = pairs_end bound_clause c.args.flows.now c.args.arcs.now c.args.amounts.now c.loop-i.i c.requires.long (omega arith) c.loop-i.invariant

@@ -4,4 +4,4 @@ use Rattle.cert_checker.proofs.Pairs.{pairs_of}
 use Rattle.cert_checker.proofs.cost.total_cost.Given as goal
 
 abbrev pub invariant-loop-i : goal.invariant-loop-i
-invariant-loop-i l = Ok l.running ≡ cost_of (take l.i (pairs_of l.flows l.amounts))
+invariant-loop-i l = Ok l.running ≡ cost_of (take l.i (pairs_of l.flows l.arcs l.amounts))
