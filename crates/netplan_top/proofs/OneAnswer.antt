@@ -1,5 +1,5 @@
 -- What is said of an input is one status and one text.
-use Rattle.std.proofs.Common.{◌≡◌, ℕ, List, sym, subst, ap, ◌∙◌, ◌⊎◌, inl, inr}
+use Rattle.std.proofs.Common.{◌≡◌, ℕ, List, sym, subst, ap, ◌∙◌, inl, inr}
 use Rattle.std.specs.Prelude.{[], codes, Ok, Err, Result}
 use Rattle.net_csv.specs.Words.{code_word}
 use Rattle.net_csv.specs.declared.refused.Code.{Code}
