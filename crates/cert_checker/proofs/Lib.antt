@@ -2,6 +2,7 @@ pub mod Arcs
 pub mod Balances
 pub mod Exact
 pub mod First
+pub mod Made
 pub mod Pairs
 pub mod PlainStages
 pub mod Segments

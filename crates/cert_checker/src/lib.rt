@@ -11,6 +11,10 @@ mod ray;
 mod reduced;
 mod segment;
 mod staged;
+#[cfg(test)]
+mod tests;
+#[cfg(test)]
+mod valid;
 mod walk;
 
 pub use answer::{CheckRefusal, Checked, Clause};

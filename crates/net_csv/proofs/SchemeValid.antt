@@ -36,7 +36,7 @@ pub made-valid : (t : Tables) → IsReady t → IsScheme t.periods t.nodes (map 
 made-valid t h =
     let n = length t.nodes in
     let given = recursion_from_All (λ (g : Given). is_amount g.amount ≡ true) t.supplies
-        (All-weaker (IsGiven n t.periods) (λ (g : Given). is_amount g.amount ≡ true) (λ g k. k.amount) t.supplies h.kept.supplies) in
+    (All-weaker (IsGiven n t.periods) (λ (g : Given). is_amount g.amount ≡ true) (λ g k. k.amount) t.supplies h.kept.supplies) in
     record {
       some_period = h.some_period;
       few_periods = h.few_periods;

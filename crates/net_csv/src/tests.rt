@@ -131,14 +131,16 @@ fn what_stands_behind(rt: HostRuntime) -> Result<(), Fail> {
 }
 
 // A text of every kind of record, with quoted names, fractions, lowers below 0 and infinite uppers.
-const EVERY: &str = "netplan,1|periods,2|node,\"a,b\"|node,\"c\"\"d\"|supply,\"a,b\",1,-1/3|supply,\"a,b\",2,-1/3|\
+const EVERY: &str =
+    "netplan,1|periods,2|node,\"a,b\"|node,\"c\"\"d\"|supply,\"a,b\",1,-1/3|supply,\"a,b\",2,-1/3|\
     supply,\"c\"\"d\",2,1/2|arc,x,\"c\"\"d\",\"a,b\",1/2,-1,inf,0|hold,h,\"c\"\"d\",1,0,1,1|drain,d,\"c\"\"d\",0,1,1|\
     feed,f,\"c\"\"d\",-7/2,1,1|piece,f,2,1|piece,f,inf,123456789012345678.123456789|end";
 
 #[test]
 fn written_back(rt: HostRuntime) -> Result<(), Fail> {
     let alloc = rt.alloc();
-    let first = "netplan,1|periods,1|node,A|node,B|supply,A,1,3|supply,B,1,-6|arc,u,A,B,2,0,10,1|end";
+    let first =
+        "netplan,1|periods,1|node,A|node,B|supply,A,1,3|supply,B,1,-6|arc,u,A,B,2,0,10,1|end";
     for records in [first, EVERY] {
         let text = text_of(alloc, records)?;
         assert!(rt; again(alloc, &text)? == text, "{records}");

@@ -60,7 +60,8 @@ price,B,1,0 | end > price,B,1,0 | end | end
 price,B,1,0 | end > price,B,1,0 | end,1";
 
 // Inputs, the status, and the text, in each line: drains and feeds, and a network text that stands alone.
-const INPUTS: &str = "netplan,1 | periods,1 | node,A | supply,A,1,4 | drain,z,A,4,4,-7 | end | netplan-plan,1 | verdict,optimal | cost,-28 | flow,z,1,4 | price,A,1,0 | end > 0 > netplan-check,1 | accepted,optimal,-28 | end
+const INPUTS: &str =
+    "netplan,1 | periods,1 | node,A | supply,A,1,4 | drain,z,A,4,4,-7 | end | netplan-plan,1 | verdict,optimal | cost,-28 | flow,z,1,4 | price,A,1,0 | end > 0 > netplan-check,1 | accepted,optimal,-28 | end
 netplan,1 | periods,1 | node,A | supply,A,1,4 | drain,z,A,4,4,-7 | end | netplan-plan,1 | verdict,optimal | cost,28 | flow,z,1,4 | price,A,1,0 | end > 10 > netplan-check,1 | rejected,cost | end
 netplan,1 | periods,1 | node,A | supply,A,1,-4 | feed,f,A,0,9,1/3 | end | netplan-plan,1 | verdict,optimal | cost,4/3 | flow,f,1,4 | price,A,1,-1/3 | end > 0 > netplan-check,1 | accepted,optimal,4/3 | end
 netplan,1 | periods,1 | node,A | supply,A,1,-4 | feed,f,A,0,9,1/3 | end | netplan-plan,1 | verdict,optimal | cost,0 | flow,f,1,4 | price,A,1,-1/3 | end > 10 > netplan-check,1 | rejected,cost | end
