@@ -22,10 +22,10 @@ lesser_under x u h = if_below (λ r. r ≡ x) u x u x (λ above. absurd (clash a
 lesser_over : (x u : Ratio) → u ≤ᵣ x → lesser x (Finite u) ≡ u
 lesser_over x u h = if_below (λ r. r ≡ u) u x u x (λ _. refl) (λ k. ≤ᵣ_antisym k h)
 
-lesser_within : (x u : Ratio) → lesser x (Finite u) ≤ᵣ u
+pub lesser_within : (x u : Ratio) → lesser x (Finite u) ≤ᵣ u
 lesser_within x u = if_below (λ r. r ≤ᵣ u) u x u x (λ _. ≤ᵣ_refl u) (λ k. k)
 
-lesser_least : (z x : Ratio) (e : Upper) → z ≤ᵣ x → IsAtMost z e → z ≤ᵣ lesser x e
+pub lesser_least : (z x : Ratio) (e : Upper) → z ≤ᵣ x → IsAtMost z e → z ≤ᵣ lesser x e
 lesser_least z x Infinite h k = h
 lesser_least z x (Finite u) h k = if_below (λ r. z ≤ᵣ r) u x u x (λ _. k) (λ _. h)
 
@@ -67,7 +67,7 @@ part_not_negative start end slope x h =
     if_below (λ r. zero_ratio ≤ᵣ r) start x (lesser x end -ᵣ start) zero_ratio
     (λ above. minus_not_negative (lesser_least start x end (<ᵣ_is_≤ᵣ above) (under_is_at_most start end h))) (λ _. ≤ᵣ_refl zero_ratio)
 
-part_within : (start u slope x : Ratio) → start <ᵣ u → part start (Finite u) slope x ≤ᵣ u -ᵣ start
+pub part_within : (start u slope x : Ratio) → start <ᵣ u → part start (Finite u) slope x ≤ᵣ u -ᵣ start
 part_within start u slope x h =
     if_below (λ r. r ≤ᵣ u -ᵣ start) start x (lesser x (Finite u) -ᵣ start) zero_ratio
     (λ _. minus_at_most start (lesser_within x u)) (λ _. minus_not_negative (<ᵣ_is_≤ᵣ h))
@@ -140,7 +140,7 @@ stretch x e slope width wide =
     still Infinite h = refl
     still (Finite u) h = lesser_under x u h
 
-parts_are : (x slope : Ratio) (end : Upper) (bands : List Band) → IsConvexFrom slope bands → IsAtMost x (last_end end bands) → lesser x end +ᵣ sum (λ g. amount_in g x) (segments_beyond end bands) ≡ x
+pub parts_are : (x slope : Ratio) (end : Upper) (bands : List Band) → IsConvexFrom slope bands → IsAtMost x (last_end end bands) → lesser x end +ᵣ sum (λ g. amount_in g x) (segments_beyond end bands) ≡ x
 parts_are x slope Infinite [] convex within = +ᵣ-zero x
 parts_are x slope (Finite e) [] convex within = +ᵣ-zero (lesser x (Finite e)) ∙ lesser_under x e within
 parts_are x slope Infinite (b ∷ bs) convex within = +ᵣ-zero x

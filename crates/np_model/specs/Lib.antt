@@ -1,5 +1,6 @@
 pub mod Network
 pub mod Stages
+pub mod Nets
 pub mod Valid
 pub mod Schemes
 pub mod Fits

@@ -109,7 +109,7 @@ HasGain-prop (Hold node gain) = <ᵣ-prop zero_ratio gain
 HasGain-prop (Drain node) = hlevel props
 HasGain-prop (Feed node) = hlevel props
 
-AreReached-prop : (end : Upper) (bands : List Band) → IsProp (AreReached end bands)
+pub AreReached-prop : (end : Upper) (bands : List Band) → IsProp (AreReached end bands)
 AreReached-prop end [] = hlevel props
 AreReached-prop Infinite (band ∷ bands) = hlevel props
 AreReached-prop (Finite end) (band ∷ bands) = AreReached-prop band.width bands

@@ -1,0 +1,10 @@
+mod Parallel
+mod Exactly
+mod Bounds
+mod Costs
+mod Filling
+mod Shown
+mod Forbidden
+mod Falling
+mod Gathering
+mod TwoNodes

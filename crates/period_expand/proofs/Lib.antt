@@ -1,0 +1,4 @@
+mod Grows
+mod Standing
+mod Sound
+mod Year

@@ -1,0 +1,72 @@
+ghost use Rattle.std.specs.Prelude.{◌≡◌, [], ◌∷◌, IfOk};
+ghost use Rattle.np_frac.specs.Ratio.{zero_ratio, one_ratio};
+ghost use Rattle.np_model.specs.declared.arc.Upper.TheVariants.{Finite};
+
+use crate::{Staged, expand_periods};
+use np_frac::{Frac, Memory};
+use np_model::{Bands, Ends, Flow, FlowKind, Flows, Fracs, Name, Names, Scheme, Upper};
+use std::alloc::Global;
+use std::test::Fail;
+
+// A flow with a name of one letter, from 0 to 1 in each period, where a unit costs 1.
+fn flow(alloc: Global, letter: u8, kind: FlowKind) -> Result<Flow, Memory>
+    ensures { IfOk result (λ flow. flow ≡ record { name = letter ∷ []; kind = kind; lower = zero_ratio; upper = Finite one_ratio; cost = one_ratio; bands = [] }) }
+{
+    let mut name = Vec::new(alloc);
+    name.push(letter)?;
+    Ok(Flow {
+        name: Name { items: name },
+        kind,
+        lower: Frac::whole(0),
+        upper: Upper::Finite(Frac::whole(1)),
+        cost: Frac::whole(1),
+        bands: Bands {
+            items: Vec::new(alloc),
+        },
+    })
+}
+
+// A reservoir over twelve months: what it holds, what leaves it, and what comes in.
+fn year(alloc: Global) -> Result<Scheme, Memory> {
+    let mut name = Vec::new(alloc);
+    name.push(b'A')?;
+    let mut nodes = Vec::new(alloc);
+    nodes.push(Name { items: name })?;
+    let hold = FlowKind::Hold {
+        node: 0,
+        gain: Frac::whole(1),
+    };
+    let mut flows = Vec::new(alloc);
+    flows.push(flow(alloc, b'h', hold)?)?;
+    flows.push(flow(alloc, b'd', FlowKind::Drain { node: 0 })?)?;
+    flows.push(flow(alloc, b'f', FlowKind::Feed { node: 0 })?)?;
+    Ok(Scheme {
+        periods: 12,
+        nodes: Names { items: nodes },
+        supply: Fracs {
+            items: Vec::from_slice(alloc, &[Frac::whole(0); 12])?,
+        },
+        flows: Flows { items: flows },
+    })
+}
+
+#[test]
+fn months(rt: HostRuntime) -> Result<(), Fail> {
+    let expanded = expand_periods(rt.alloc(), &year(rt.alloc())?)?;
+    assert!(rt; expanded.supply.as_slice().len() == 12);
+    let staged = expanded.staged.as_slice();
+    assert!(rt; staged.len() == 35);
+    // The hold of the second month, and the feed of the last.
+    let hold: &Staged = &staged[3];
+    assert!(rt; hold.flow == 0 && hold.period == 2);
+    let next = Ends::Link {
+        from: 1,
+        to: 2,
+        gain: Frac::whole(1),
+    };
+    assert!(rt; hold.ends == next);
+    let feed: &Staged = &staged[34];
+    assert!(rt; feed.flow == 2 && feed.period == 12);
+    assert!(rt; feed.ends == Ends::Feed(11));
+    Ok(())
+}
