@@ -19,7 +19,7 @@ use Rattle.np_model.proofs.Convex.{lesser_within, lesser_least, under_end_after,
 use Rattle.period_expand.specs.Expansion.{IsSoundStage, IsExpansion, segment_count}
 use Rattle.convex_arcs.specs.Segments.{band_arc, segment_arcs, flat_arcs}
 use Rattle.convex_arcs.specs.Gathered.{amounts_of}
-use Rattle.convex_arcs.specs.Filled.{filled, filled_flows, FilledIsFeasible, FilledCostsTheSame, FilledGathersBack, LeastOnBothSides}
+use Rattle.convex_arcs.specs.Filled.{filled, filled_flows, FilledIsFeasible, FilledCostsTheSame, FilledGathersBack, LeastOnBothSides, LeastPlansFill}
 use Rattle.convex_arcs.proofs.Exactly.{balances}
 use Rattle.convex_arcs.proofs.Bounds.{Keeps, are_feasible}
 use Rattle.convex_arcs.proofs.Costs.{without, paid, priced, cost_no_more}
@@ -193,3 +193,13 @@ least_on_both_sides supply stages flows h l =
       record { feasible = feasible; least = λ y f. ≤ᵣ_trans no_more (below y f) },
       ≤ᵣ_antisym no_more (below amounts feasible),
     )
+
+pub least_plans_fill : LeastPlansFill
+least_plans_fill supply stages x h l =
+    let sound = recursion_from_All (IsSoundStage (length supply)) stages h.sound in
+    let valid = All-from_recursion IsValid stages (valid_each (length supply) stages sound) in
+    record {
+      feasible = fills_feasibly supply stages x h l.feasible;
+      least = λ y f. ≤ᵣ_trans (≤ᵣ_same (costs_the_same supply stages x h l.feasible))
+          (≤ᵣ_trans (l.least (amounts_of stages y) (are_feasible supply stages y f)) (cost_no_more supply stages y valid f));
+    }

@@ -39,6 +39,12 @@ LeastOnBothSides =
     (supply : List Ratio) (stages : List Stage) (flows : List Ratio) → IsExpansion supply stages → Least (flat_net supply stages) flows →
     StagesLeast supply stages (amounts_of stages flows) × (stages_cost stages (amounts_of stages flows) ≡ plan_cost (flat_arcs stages) flows)
 
+-- and a plan of least cost fills into flows of least cost
+abbrev pub LeastPlansFill : Type 0
+LeastPlansFill =
+    (supply : List Ratio) (stages : List Stage) (x : List Ratio) → IsExpansion supply stages → StagesLeast supply stages x →
+    Least (flat_net supply stages) (filled_flows stages x)
+
 -- prices that show flows least for the segments show their amounts least
 abbrev pub ShownOnBothSides : Type 0
 ShownOnBothSides =

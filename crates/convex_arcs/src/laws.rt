@@ -1,7 +1,7 @@
 //! Where each segment stands, and what the flows of the segments come to, as the clauses of functions that do nothing.
 
 ghost use Rattle.convex_arcs.specs.Gathered.{GatheredIsExact, AmountsByPlace, AmountsBalance, AmountsFeasible, AmountsCostNoMore};
-ghost use Rattle.convex_arcs.specs.Filled.{FilledIsFeasible, FilledCostsTheSame, FilledGathersBack, LeastOnBothSides, ShownOnBothSides, ForbiddenOnBothSides, FallsOnBothSides};
+ghost use Rattle.convex_arcs.specs.Filled.{FilledIsFeasible, FilledCostsTheSame, FilledGathersBack, LeastOnBothSides, LeastPlansFill, ShownOnBothSides, ForbiddenOnBothSides, FallsOnBothSides};
 ghost use Rattle.convex_arcs.specs.Segments.{SegmentsStandInOrder, HasNoOtherSegments};
 
 /// Segment `k` (from 0) of a staged arc stands behind the segments of all staged arcs before it and behind `k` of its
@@ -24,12 +24,14 @@ pub fn amounts()
 
 /// A feasible plan of the staged arcs, filled into the segments in order, is feasible for their arcs, costs the same
 /// and gathers back to itself. So flows of least cost for the arcs of the segments gather to amounts of least cost for
-/// the staged arcs, and the least cost is the same. Prices that show the flows show the amounts.
+/// the staged arcs, and a plan of least cost fills into flows of least cost: the least cost is the same. Prices that show
+/// the flows show the amounts.
 pub fn filled_plans()
     ensures feasible { FilledIsFeasible }
     ensures cost { FilledCostsTheSame }
     ensures gathered { FilledGathersBack }
     ensures least { LeastOnBothSides }
+    ensures fills { LeastPlansFill }
     ensures shown { ShownOnBothSides }
 {}
 

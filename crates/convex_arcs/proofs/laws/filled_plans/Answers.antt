@@ -1,4 +1,4 @@
-use Rattle.convex_arcs.proofs.Filling.{fills_feasibly, costs_the_same, gathers_back, least_on_both_sides}
+use Rattle.convex_arcs.proofs.Filling.{fills_feasibly, costs_the_same, gathers_back, least_on_both_sides, least_plans_fill}
 use Rattle.convex_arcs.proofs.Shown.{shown_on_both_sides}
 use Rattle.convex_arcs.proofs.laws.filled_plans.Goals as goal
 
@@ -16,3 +16,6 @@ returns-clause-least c = least_on_both_sides
 
 pub returns-clause-shown : goal.returns-clause-shown
 returns-clause-shown c = shown_on_both_sides
+
+pub returns-clause-fills : goal.returns-clause-fills
+returns-clause-fills c = least_plans_fill
