@@ -1,4 +1,7 @@
+pub mod WordFacts
 pub mod AnswerFacts
+pub mod RunFacts
+pub mod NetFacts
 pub mod ClaimsTables
 pub mod ClaimsText
 pub mod ClaimsDraft

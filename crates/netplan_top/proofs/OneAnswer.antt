@@ -10,8 +10,13 @@ use Rattle.cert_checker.specs.declared.answer.Checked.{Checked}
 use Rattle.cert_checker.specs.declared.answer.Checked.TheVariants as checked
 use Rattle.cert_checker.specs.declared.answer.CheckRefusal.{CheckRefusal}
 use Rattle.cert_checker.specs.declared.answer.CheckRefusal.TheVariants as refusal
-use Rattle.netplan_top.specs.Reads.{Reads, IsFault, IsTaken, IsUntaken}
-use Rattle.netplan_top.specs.Answers.{Accepts, Rejects, Passes, IsAnswer}
+use Rattle.net_csv.specs.declared.refused.Tail.{Tail}
+use Rattle.net_csv.specs.declared.refused.Tail.TheVariants as tail
+use Rattle.netplan_top.specs.declared.words.Command.{Command}
+use Rattle.netplan_top.specs.declared.words.Command.TheVariants.{Check, Expand}
+use Rattle.netplan_top.specs.Reads.{Reads, IsFault, IsTaken, IsUntaken, IsNetwork}
+use Rattle.netplan_top.specs.Answers.{Accepts, Rejects, Passes, IsAnswer, IsExpandAnswer, AnswerOf}
+use Rattle.netplan_top.specs.NetText.{net_text}
 use Rattle.netplan_top.specs.Texts.{refused_text, check_text, accepted_line, rejected_line, past_line}
 use Rattle.netplan_top.proofs.OneReading.{OneScheme, scheme_is, plan_is, rest_is}
 
@@ -39,10 +44,10 @@ passes_told s p x h = ap (said 4) h.text_is ∙ sym (ap (told s) h.walked)
 
 -- ---- what stands behind an answer, and that each of these leaves no room for another
 
-record IsFaultTold (input : List ℕ) (status : ℕ) (text : List ℕ) : Type 0 where
+record IsFaultTold (behind : Tail) (input : List ℕ) (status : ℕ) (text : List ℕ) : Type 0 where
   pub place : ℕ
   pub code : Code
-  pub fault : IsFault input place code
+  pub fault : IsFault behind input place code
   pub answer : said status text ≡ said 5 (refused_text place (code_word code))
 
 record IsLaterTold (input : List ℕ) (status : ℕ) (text : List ℕ) : Type 0 where
@@ -56,7 +61,7 @@ record IsTold (input : List ℕ) (status : ℕ) (text : List ℕ) : Type 0 where
   pub answer : said status text ≡ told scheme (walk scheme plan)
 
 data Cause (input : List ℕ) (status : ℕ) (text : List ℕ) : Type 0 where
-  fault : IsFaultTold input status text → Cause input status text
+  fault : IsFaultTold tail.Plan input status text → Cause input status text
   later : IsLaterTold input status text → Cause input status text
   walked : IsTold input status text → Cause input status text
 
@@ -84,9 +89,9 @@ fault_of : Result ℕ (ℕ × Code) → List ℕ
 fault_of (Ok count) = []
 fault_of (Err (place, code)) = refused_text place (code_word code)
 
-both_faults : (input : List ℕ) (s t : ℕ) (x y : List ℕ) → IsFaultTold input s x → IsFaultTold input t y → said s x ≡ said t y
+both_faults : (behind : Tail) (input : List ℕ) (s t : ℕ) (x y : List ℕ) → IsFaultTold behind input s x → IsFaultTold behind input t y → said s x ≡ said t y
 unfolding fault_of
-both_faults input s t x y a b = a.answer ∙ ap (said 5) (sym (ap fault_of a.fault) ∙ ap fault_of b.fault) ∙ sym b.answer
+both_faults behind input s t x y a b = a.answer ∙ ap (said 5) (sym (ap fault_of a.fault) ∙ ap fault_of b.fault) ∙ sym b.answer
 
 no_fault : (x : Result ℕ (ℕ × Code)) (count place : ℕ) (code : Code) → x ≡ Ok count → x ≡ Err (place, code) → ⊥
 no_fault x count place code a b = cc
@@ -104,7 +109,7 @@ both_told law input s t x y a b =
     a.answer ∙ (λ i. told (e i) (walk (e i) (f i))) ∙ sym b.answer
 
 same_cause : OneScheme → (input : List ℕ) (s t : ℕ) (x y : List ℕ) → Cause input s x → Cause input t y → said s x ≡ said t y
-same_cause law input s t x y (Cause.fault a) (Cause.fault b) = both_faults input s t x y a b
+same_cause law input s t x y (Cause.fault a) (Cause.fault b) = both_faults tail.Plan input s t x y a b
 same_cause law input s t x y (Cause.fault a) (Cause.later b) = absurd (no_fault _ _ _ _ b.untaken.network.network a.fault)
 same_cause law input s t x y (Cause.fault a) (Cause.walked b) = absurd (no_fault _ _ _ _ b.reads.network.network a.fault)
 same_cause law input s t x y (Cause.later a) (Cause.fault b) = absurd (no_fault _ _ _ _ a.untaken.network.network b.fault)
@@ -117,8 +122,45 @@ same_cause law input s t x y (Cause.walked a) (Cause.walked b) = both_told law i
 same_pair : OneScheme → (input : List ℕ) (s t : ℕ) (x y : List ℕ) → IsAnswer input s x → IsAnswer input t y → said s x ≡ said t y
 same_pair law input s t x y a b = same_cause law input s t x y (cause_of input s x a) (cause_of input t y b)
 
-pub status_is : OneScheme → (input : List ℕ) (s t : ℕ) (x y : List ℕ) → IsAnswer input s x → IsAnswer input t y → s ≡ t
-status_is law input s t x y a b = ap (λ p. p.0) (same_pair law input s t x y a b)
+-- ---- what `expand` says
 
-pub text_is : OneScheme → (input : List ℕ) (s t : ℕ) (x y : List ℕ) → IsAnswer input s x → IsAnswer input t y → x ≡ y
-text_is law input s t x y a b = ap (λ p. p.1) (same_pair law input s t x y a b)
+record IsExpansionTold (input : List ℕ) (status : ℕ) (text : List ℕ) : Type 0 where
+  pub scheme : Scheme
+  pub network : IsNetwork input scheme
+  pub answer : said status text ≡ said 0 (net_text scheme)
+
+data ExpandCause (input : List ℕ) (status : ℕ) (text : List ℕ) : Type 0 where
+  fault : IsFaultTold tail.Nothing input status text → ExpandCause input status text
+  expanded : IsExpansionTold input status text → ExpandCause input status text
+
+expand_cause_of : (input : List ℕ) (status : ℕ) (text : List ℕ) → IsExpandAnswer input status text → ExpandCause input status text
+expand_cause_of input status text a =
+    elim a.known [
+      | inl e ↦ let h = a.expands e in
+          ExpandCause.expanded (record { scheme = h.scheme; network = h.network; answer = ap (λ n. said n text) e ∙ ap (said 0) h.text_is })
+      | inr e ↦ let h = a.refuses e in
+          ExpandCause.fault (record { place = h.place; code = h.code; fault = h.fault; answer = ap (λ n. said n text) e ∙ ap (said 5) h.text_is })
+    ]
+
+both_expanded : OneScheme → (input : List ℕ) (s t : ℕ) (x y : List ℕ) → IsExpansionTold input s x → IsExpansionTold input t y → said s x ≡ said t y
+both_expanded law input s t x y a b =
+    let e : a.scheme ≡ b.scheme = law _ a.scheme b.scheme a.network.scheme_is b.network.scheme_is in
+    a.answer ∙ ap (λ (z : Scheme). said 0 (net_text z)) e ∙ sym b.answer
+
+same_expand_cause : OneScheme → (input : List ℕ) (s t : ℕ) (x y : List ℕ) → ExpandCause input s x → ExpandCause input t y → said s x ≡ said t y
+same_expand_cause law input s t x y (ExpandCause.fault a) (ExpandCause.fault b) = both_faults tail.Nothing input s t x y a b
+same_expand_cause law input s t x y (ExpandCause.fault a) (ExpandCause.expanded b) = absurd (no_fault _ _ _ _ b.network.network a.fault)
+same_expand_cause law input s t x y (ExpandCause.expanded a) (ExpandCause.fault b) = absurd (no_fault _ _ _ _ a.network.network b.fault)
+same_expand_cause law input s t x y (ExpandCause.expanded a) (ExpandCause.expanded b) = both_expanded law input s t x y a b
+
+-- ---- what a command says
+
+same_said : OneScheme → (command : Command) (input : List ℕ) (s t : ℕ) (x y : List ℕ) → AnswerOf command input s x → AnswerOf command input t y → said s x ≡ said t y
+same_said law Check input s t x y a b = same_pair law input s t x y a b
+same_said law Expand input s t x y a b = same_expand_cause law input s t x y (expand_cause_of input s x a) (expand_cause_of input t y b)
+
+pub status_is : OneScheme → (command : Command) (input : List ℕ) (s t : ℕ) (x y : List ℕ) → AnswerOf command input s x → AnswerOf command input t y → s ≡ t
+status_is law command input s t x y a b = ap (λ p. p.0) (same_said law command input s t x y a b)
+
+pub text_is : OneScheme → (command : Command) (input : List ℕ) (s t : ℕ) (x y : List ℕ) → AnswerOf command input s x → AnswerOf command input t y → x ≡ y
+text_is law command input s t x y a b = ap (λ p. p.1) (same_said law command input s t x y a b)

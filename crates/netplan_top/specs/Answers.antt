@@ -7,6 +7,8 @@ use Rattle.np_io.specs.Faults.{Rose}
 use Rattle.np_io.specs.Input.{TookExactly}
 use Rattle.net_csv.specs.Words.{code_word}
 use Rattle.net_csv.specs.declared.refused.Code.{Code}
+use Rattle.net_csv.specs.declared.refused.Tail.{Tail}
+use Rattle.net_csv.specs.declared.refused.Tail.TheVariants as tail
 use Rattle.np_model.specs.declared.plan.CheckRow.{CheckRow}
 use Rattle.np_model.specs.declared.plan.Plan.{Plan}
 use Rattle.np_model.specs.declared.scheme.Scheme.{Scheme}
@@ -20,9 +22,12 @@ use Rattle.std.specs.declared.string.String.{String}
 use Rattle.std.specs.declared.alloc.Global.{Global}
 use Rattle.netplan_top.specs.declared.stop.Stop.{Stop}
 use Rattle.netplan_top.specs.declared.stop.Stop.TheVariants as stop
-use Rattle.netplan_top.specs.Words.{IsCommand, usage_text}
-use Rattle.netplan_top.specs.Reads.{IsFault, IsUntaken, Reads}
+use Rattle.netplan_top.specs.declared.words.Command.{Command}
+use Rattle.netplan_top.specs.declared.words.Command.TheVariants.{Check, Expand}
+use Rattle.netplan_top.specs.Words.{Names, IsCommand, usage_text}
+use Rattle.netplan_top.specs.Reads.{IsFault, IsUntaken, IsNetwork, Reads}
 use Rattle.netplan_top.specs.Texts.{refused_text, check_text, accepted_line, rejected_line, past_line}
+use Rattle.netplan_top.specs.NetText.{net_text}
 
 -- the most bytes of an input
 abbrev pub longest : ℕ
@@ -62,10 +67,10 @@ pub record Says (claim : Scheme → Plan → List ℕ → Type 0) (input : List 
   pub says : claim scheme plan text
 
 -- the network text has a first fault, which the text names
-pub record IsFaulty (input : List ℕ) (text : List ℕ) : Type 0 where
+pub record IsFaulty (behind : Tail) (input : List ℕ) (text : List ℕ) : Type 0 where
   pub place : ℕ
   pub code : Code
-  pub fault : IsFault input place code
+  pub fault : IsFault behind input place code
   pub text_is : text ≡ refused_text place (code_word code)
 
 -- the network text has none, and what is there is not taken so far
@@ -73,13 +78,30 @@ pub record IsLater (input : List ℕ) (text : List ℕ) : Type 0 where
   pub untaken : IsUntaken input
   pub text_is : text ≡ refused_text 0 (codes "Later")
 
--- the text is what is said of the input with this status
+-- the input is the network text of a scheme, and the text is that of its expanded network
+pub record Expands (input : List ℕ) (text : List ℕ) : Type 0 where
+  pub scheme : Scheme
+  pub network : IsNetwork input scheme
+  pub text_is : text ≡ net_text scheme
+
+-- the text is what `check` says of the input with this status
 pub record IsAnswer (input : List ℕ) (status : ℕ) (text : List ℕ) : Type 0 where
   pub accepts : status ≡ 0 → Says Accepts input text
   pub passes : status ≡ 4 → Says Passes input text
-  pub refuses : status ≡ 5 → IsFaulty input text ⊎ IsLater input text
+  pub refuses : status ≡ 5 → IsFaulty tail.Plan input text ⊎ IsLater input text
   pub rejects : status ≡ 10 → Says Rejects input text
   pub known : (status ≡ 0) ⊎ (status ≡ 4) ⊎ (status ≡ 5) ⊎ (status ≡ 10)
+
+-- the text is what `expand` says of it with this status
+pub record IsExpandAnswer (input : List ℕ) (status : ℕ) (text : List ℕ) : Type 0 where
+  pub expands : status ≡ 0 → Expands input text
+  pub refuses : status ≡ 5 → IsFaulty tail.Nothing input text
+  pub known : (status ≡ 0) ⊎ (status ≡ 5)
+
+-- what a command says
+abbrev pub AnswerOf : Command → List ℕ → ℕ → List ℕ → Type 0
+AnswerOf Check = IsAnswer
+AnswerOf Expand = IsExpandAnswer
 
 -- ---- what was read, and what was written
 
@@ -116,9 +138,10 @@ pub record GivesTooLong (left left' written written' : Option (List ℕ)) : Type
   pub too_long : IsTooLong left left' text
   pub wrote : Wrote written written' text
 
--- a text that some status allows
-abbrev pub IsSomeText : Option (List ℕ) → Option (List ℕ) → List ℕ → Type 0
-IsSomeText left left' text = ((input : List ℕ) × (status : ℕ) × IsWholeInput left left' input × IsAnswer input status text) ⊎ IsTooLong left left' text
+-- a text that some status of the command allows
+abbrev pub IsSomeText : Command → Option (List ℕ) → Option (List ℕ) → List ℕ → Type 0
+IsSomeText command left left' text =
+    ((input : List ℕ) × (status : ℕ) × IsWholeInput left left' input × AnswerOf command input status text) ⊎ IsTooLong left left' text
 
 -- the sink failed: its count rose, and a first part of a text was written of which it was not sure
 pub record IsCut (allowed : List ℕ → Type 0) (faults faults' sure : ℕ) (written written' : Option (List ℕ)) : Type 0 where
@@ -154,6 +177,7 @@ abbrev pub IsStatus : ℕ → Type 0
 IsStatus status =
     (status ≡ 0) ⊎ (status ≡ 4) ⊎ (status ≡ 5) ⊎ (status ≡ 6) ⊎ (status ≡ 7) ⊎ (status ≡ 8) ⊎ (status ≡ 9) ⊎ (status ≡ 10)
 
--- a text that the words allow, and for a command what was read: the usage text, or one that some status allows
+-- a text that the words allow, and for a command what was read: the usage text, or one that some status of the command allows
 abbrev pub IsAllowed : List (String Global) → Option (List ℕ) → Option (List ℕ) → List ℕ → Type 0
-IsAllowed words left left' text = ((¬ (IsCommand words)) × (text ≡ usage_text)) ⊎ (IsCommand words × IsSomeText left left' text)
+IsAllowed words left left' text =
+    ((¬ (IsCommand words)) × (text ≡ usage_text)) ⊎ ((command : Command) × Names words command × IsSomeText command left left' text)

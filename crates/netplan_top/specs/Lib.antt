@@ -3,6 +3,7 @@ pub mod Split
 pub mod PlanForm
 pub mod Reads
 pub mod Texts
+pub mod NetText
 pub mod Words
 pub mod Answers
 pub mod Endings

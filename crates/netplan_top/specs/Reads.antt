@@ -1,4 +1,4 @@
--- What an input of `check` stands for: a network text, and a plan text behind it.
+-- What an input stands for: that of `check` a network text with a plan text behind it, that of `expand` a network text alone.
 use Rattle.std.specs.Prelude.{◌≡◌, ℕ, Ok, Err, List, drop, map}
 use Rattle.np_records.specs.Records.{records_of}
 use Rattle.np_model.specs.declared.scheme.Flow.{Flow}
@@ -7,6 +7,7 @@ use Rattle.np_model.specs.declared.plan.Plan.{Plan}
 use Rattle.cert_checker.specs.Plain.{IsPlain}
 use Rattle.net_csv.specs.Grammar.{read_records, IsSchemeOf}
 use Rattle.net_csv.specs.declared.refused.Code.{Code}
+use Rattle.net_csv.specs.declared.refused.Tail.{Tail}
 use Rattle.net_csv.specs.declared.refused.Tail.TheVariants as tail
 use Rattle.netplan_top.specs.declared.stop.Stop.{Stop}
 use Rattle.netplan_top.specs.declared.stop.Stop.TheVariants as stop
@@ -35,9 +36,15 @@ pub record Reads (input : List ℕ) (scheme : Scheme) (plan : Plan) : Type 0 whe
   pub taken : IsTaken scheme rest
   pub plan_is : IsPlanOf scheme.nodes (flow_names scheme.flows) (body_of rest) plan
 
--- the network text has this first fault
-abbrev pub IsFault : List ℕ → ℕ → Code → Type 0
-IsFault input place code = read_records tail.Plan (records_of input) ≡ Err (place, code)
+-- the input is the network text of this scheme, and nothing stands behind it
+pub record IsNetwork (input : List ℕ) (scheme : Scheme) : Type 0 where
+  pub count : ℕ
+  pub network : read_records tail.Nothing (records_of input) ≡ Ok count
+  pub scheme_is : IsSchemeOf (records_of input) scheme
+
+-- the network text has this first fault, with or without a plan text behind it
+abbrev pub IsFault : Tail → List ℕ → ℕ → Code → Type 0
+IsFault behind input place code = read_records behind (records_of input) ≡ Err (place, code)
 
 -- the input begins with a network text, and what stands there is not taken so far
 pub record IsUntaken (input : List ℕ) : Type 0 where
@@ -48,7 +55,7 @@ pub record IsUntaken (input : List ℕ) : Type 0 where
 
 -- reading an input stopped for this reason
 abbrev pub IsStopOf : Stop → List ℕ → Type 0
-IsStopOf (stop.Fault place code) input = IsFault input place code
+IsStopOf (stop.Fault place code) input = IsFault tail.Plan input place code
 IsStopOf stop.Outside input = IsUntaken input
 IsStopOf stop.Memory input = Unit {0}
 

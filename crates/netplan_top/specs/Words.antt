@@ -3,11 +3,21 @@ use Rattle.std.specs.Prelude.{◌≡◌, ℕ, List, [], ◌∷◌, map, codes}
 use Rattle.std.specs.String.{string_bytes}
 use Rattle.std.specs.declared.string.String.{String}
 use Rattle.std.specs.declared.alloc.Global.{Global}
+use Rattle.netplan_top.specs.declared.words.Command.{Command}
+use Rattle.netplan_top.specs.declared.words.Command.TheVariants.{Check, Expand}
 use Rattle.netplan_top.specs.declared.texts.TheConstants.{USAGE}
 
--- the words name a command: `check` is the only one
+abbrev pub word_of : Command → List ℕ
+word_of Check = codes "check"
+word_of Expand = codes "expand"
+
+-- the words name this command: its word, and no other
+abbrev pub Names : List (String Global) → Command → Type 0
+Names words command = map string_bytes words ≡ word_of command ∷ []
+
+-- the words name a command
 abbrev pub IsCommand : List (String Global) → Type 0
-IsCommand words = map string_bytes words ≡ codes "check" ∷ []
+IsCommand words = (command : Command) × Names words command
 
 -- the usage text: the commands that there are
 abbrev pub usage_text : List ℕ

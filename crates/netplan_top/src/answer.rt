@@ -4,12 +4,16 @@ ghost use Rattle.std.specs.Prelude.{◌≡◌, ◌<◌, ◌^◌, IfOk, length};
 ghost use Rattle.np_model.specs.declared.plan.Verdict.TheVariants as verdict;
 ghost use Rattle.np_model.specs.Fits.{PlanFits};
 ghost use Rattle.cert_checker.specs.Plain.{IsPlain};
-ghost use Rattle.netplan_top.specs.Answers.{IsAnswer, IsJudged, IsRefused, IsStopped};
+ghost use Rattle.netplan_top.specs.Answers.{IsAnswer, IsExpandAnswer, AnswerOf, IsJudged, IsRefused, IsStopped};
+ghost use Rattle.netplan_top.specs.NetText.{net_text};
 
 use crate::input::read_input;
-use crate::stop::Stop;
+use crate::net_text::net_text;
+use crate::stop::{Stop, stop_of};
 use crate::texts::{accepted, passed, refusal, rejected};
+use crate::words::Command;
 use cert_checker::{CheckRefusal, check};
+use net_csv::{Tail, read_scheme};
 use np_frac::{Frac, Memory};
 use np_model::{Plan, Scheme};
 use std::alloc::Global;
@@ -70,13 +74,43 @@ fn stopped(alloc: Global, stop: Stop) -> Result<Answer, Memory>
     Ok(Answer { status: 5, text })
 }
 
-/// What is said of an input.
-pub(crate) fn answer_of(alloc: Global, bytes: &[u8]) -> Result<Answer, Memory>
+// What `check` says of an input.
+fn check_answer(alloc: Global, bytes: &[u8]) -> Result<Answer, Memory>
     requires { length bytes.now < 2 ^ 32 }
     ensures { IfOk result (λ answer. IsAnswer bytes.now answer.status answer.text.items) }
 {
     match read_input(alloc, bytes) {
         Ok(input) => judged(alloc, &input.scheme, &input.plan),
         Err(stop) => stopped(alloc, stop),
+    }
+}
+
+// What is said of a scheme that stands alone.
+fn expanded(alloc: Global, scheme: &Scheme) -> Result<Answer, Memory>
+    ensures { IfOk result (λ answer. (answer.status ≡ 0) × (answer.text.items ≡ net_text scheme.now)) }
+{
+    let text = net_text(alloc, scheme)?;
+    Ok(Answer { status: 0, text })
+}
+
+// What `expand` says of an input.
+fn expand_answer(alloc: Global, bytes: &[u8]) -> Result<Answer, Memory>
+    requires { length bytes.now < 2 ^ 32 }
+    ensures { IfOk result (λ answer. IsExpandAnswer bytes.now answer.status answer.text.items) }
+{
+    match read_scheme(alloc, bytes, Tail::Nothing) {
+        Ok(read) => expanded(alloc, &read.0),
+        Err(refused) => stopped(alloc, stop_of(refused)),
+    }
+}
+
+/// What a command says of an input.
+pub(crate) fn answer_of(alloc: Global, command: Command, bytes: &[u8]) -> Result<Answer, Memory>
+    requires { length bytes.now < 2 ^ 32 }
+    ensures { IfOk result (λ answer. AnswerOf command bytes.now answer.status answer.text.items) }
+{
+    match command {
+        Command::Check => check_answer(alloc, bytes),
+        Command::Expand => expand_answer(alloc, bytes),
     }
 }

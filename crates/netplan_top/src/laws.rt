@@ -3,8 +3,9 @@
 ghost use Rattle.std.specs.Prelude.{◌≡◌, ℕ, List};
 ghost use Rattle.np_model.specs.declared.scheme.Scheme.{Scheme};
 ghost use Rattle.np_model.specs.declared.plan.Plan.{Plan};
+ghost use Rattle.netplan_top.specs.declared.words.Command.{Command};
 ghost use Rattle.netplan_top.specs.Reads.{Reads};
-ghost use Rattle.netplan_top.specs.Answers.{IsAnswer};
+ghost use Rattle.netplan_top.specs.Answers.{AnswerOf};
 
 use net_csv::laws::one_scheme;
 
@@ -16,10 +17,10 @@ pub fn one_reading()
     one_scheme();
 }
 
-/// What is said of an input, by the statuses 0, 4, 5 and 10, is one status and one text.
+/// What a command says of an input, by the statuses 0, 4, 5 and 10, is one status and one text.
 pub fn one_answer()
-    ensures status { (input : List ℕ) (s t : ℕ) (x y : List ℕ) → IsAnswer input s x → IsAnswer input t y → s ≡ t }
-    ensures text { (input : List ℕ) (s t : ℕ) (x y : List ℕ) → IsAnswer input s x → IsAnswer input t y → x ≡ y }
+    ensures status { (command : Command) (input : List ℕ) (s t : ℕ) (x y : List ℕ) → AnswerOf command input s x → AnswerOf command input t y → s ≡ t }
+    ensures text { (command : Command) (input : List ℕ) (s t : ℕ) (x y : List ℕ) → AnswerOf command input s x → AnswerOf command input t y → x ≡ y }
 {
     one_scheme();
 }

@@ -7,10 +7,12 @@ mod fields;
 mod input;
 pub mod laws;
 mod names;
+mod net_text;
 mod rows;
 mod stop;
 mod texts;
 mod top;
+mod words;
 
 pub use top::run;
 

@@ -89,14 +89,15 @@ fn words_of(alloc: Global, words: &str) -> Result<Vec<String>, Fail> {
 }
 
 // Runs the words on the records, over streams that do not fail.
-fn expect(
+fn answers(
     rt: &(impl Abort + Threads + Sync),
     alloc: Global,
+    words: &str,
     records: &str,
     status: u8,
     want: &str,
 ) -> Result<(), Fail> {
-    let words = words_of(alloc, "check")?;
+    let words = words_of(alloc, words)?;
     let mut source = SureSource::new(bytes_of(alloc, records)?);
     let mut sink = SureSink::new(Vec::with_capacity(alloc, 1000)?);
     let got = run(rt, alloc, &words, &mut source, &mut sink, &OpenGate);
@@ -104,6 +105,17 @@ fn expect(
     let want = bytes_of(alloc, want)?;
     assert!(rt; sink.written() == want.as_slice(), "{records}");
     Ok(())
+}
+
+// Runs `check` on the records.
+fn expect(
+    rt: &(impl Abort + Threads + Sync),
+    alloc: Global,
+    records: &str,
+    status: u8,
+    want: &str,
+) -> Result<(), Fail> {
+    answers(rt, alloc, "check", records, status, want)
 }
 
 #[test]
@@ -198,8 +210,8 @@ fn tells_what_passes(rt: HostRuntime) -> Result<(), Fail> {
 #[test]
 fn looks_at_the_words_first(rt: HostRuntime) -> Result<(), Fail> {
     let alloc = rt.alloc();
-    let usage = bytes_of(alloc, "netplan-usage,1 | usage,check | end")?;
-    for line in "check check,solve,".split(',') {
+    let usage = bytes_of(alloc, "netplan-usage,1 | usage,check | usage,expand | end")?;
+    for line in "check check,expand check,solve,".split(',') {
         let words = words_of(alloc, line)?;
         // A source that fails at its first call: it is not asked.
         let fails = Vec::from_slice(alloc, &[1])?;
@@ -274,3 +286,5 @@ fn refuses_what_is_too_long(rt: HostRuntime) -> Result<(), Fail> {
     assert!(rt; sink.written() == refusal.as_slice());
     Ok(())
 }
+
+mod expand;

@@ -12,7 +12,7 @@ use np_records::Text;
 use std::alloc::Global;
 
 /// The usage text: the commands that there are.
-pub const USAGE: &[u8] = b"netplan-usage,1\nusage,check\nend\n";
+pub const USAGE: &[u8] = b"netplan-usage,1\nusage,check\nusage,expand\nend\n";
 
 // A text with this word at its head, one line, and `end`.
 #[tactic(auto, unfolding(crate::specs::Texts::framed_text))]
@@ -45,8 +45,8 @@ fn refusal_at<'a>(alloc: Global, place: &'a [u8], code: &'a [u8]) -> Result<Vec<
     )
 }
 
-// The printed form of a fraction.
-fn fraction(alloc: Global, value: Frac) -> Result<Vec<u8>, Memory>
+/// The printed form of a fraction.
+pub(crate) fn fraction(alloc: Global, value: Frac) -> Result<Vec<u8>, Memory>
     ensures { IfOk result (λ bytes. bytes.items ≡ printed value) }
 {
     let mut bytes = Vec::new(alloc);
@@ -89,8 +89,8 @@ fn word_of_clause(clause: Clause) -> &'static [u8]
     }
 }
 
-// The name of a node.
-fn node_name(scheme: &Scheme, index: usize) -> &[u8]
+/// The name of a node, and nothing where there is none with this number.
+pub(crate) fn node_name(scheme: &Scheme, index: usize) -> &[u8]
     ensures { result.now ≡ slice_index_or scheme.now.nodes index [] }
 {
     let names: &[Name] = scheme.nodes.as_slice();
@@ -101,8 +101,8 @@ fn node_name(scheme: &Scheme, index: usize) -> &[u8]
     }
 }
 
-// The name of a flow.
-fn flow_name(scheme: &Scheme, index: usize) -> &[u8]
+/// The name of a flow, and nothing where there is none with this number.
+pub(crate) fn flow_name(scheme: &Scheme, index: usize) -> &[u8]
     ensures { result.now ≡ slice_index_or (map (λ flow. flow.name) scheme.now.flows) index [] }
 {
     let flows = scheme.flows.as_slice();

@@ -1,24 +1,20 @@
 //! The program, over any source and sink.
 
-ghost use Rattle.std.specs.Prelude.{◌≡◌, ◌<◌, ◌↔◌, ◌⊎◌, IsTrue, length};
+ghost use Rattle.std.specs.Prelude.{◌≡◌, ◌<◌, ◌⊎◌, length};
 ghost use Rattle.np_io.specs.Faults.{Rose};
-ghost use Rattle.netplan_top.specs.Words.{IsCommand, usage_text};
-ghost use Rattle.netplan_top.specs.Answers.{Accepts, Passes, Rejects, IsFaulty, IsLater, Says, Gives, GivesTooLong, IsCut, IsAllowed, IsStatus, Wrote};
+ghost use Rattle.net_csv.specs.declared.refused.Tail.TheVariants as tail;
+ghost use Rattle.netplan_top.specs.declared.words.Command.TheVariants as command;
+ghost use Rattle.netplan_top.specs.Words.{Names, IsCommand, usage_text};
+ghost use Rattle.netplan_top.specs.Answers.{Accepts, Passes, Rejects, Expands, IsFaulty, IsLater, Says, Gives, GivesTooLong, IsCut, IsAllowed, IsStatus, Wrote};
 ghost use Rattle.netplan_top.specs.Endings.{IsPrinted, Ending};
 
 use crate::answer::answer_of;
 use crate::texts::{USAGE, refusal};
+use crate::words::{Command, command_of};
 use np_io::{ReadRefusal, Sink, Source, read_all, write_all};
 use np_model::Gate;
 use std::alloc::Global;
 use std::thread::Threads;
-
-// Whether the words are a command.
-fn is_command(words: &[String]) -> bool
-    ensures { IsTrue result ↔ IsCommand words.now }
-{
-    words.len() == 1 && words[0].as_str() == "check"
-}
 
 // Writes a text, and answers its status, or 8 where the sink failed.
 fn print<K: Sink>(sink: &mut K, text: &[u8], status: u8) -> u8
@@ -30,9 +26,14 @@ fn print<K: Sink>(sink: &mut K, text: &[u8], status: u8) -> u8
     }
 }
 
-// Reads the input, and writes what is said of it.
-fn check_input<S: Source, K: Sink>(alloc: Global, source: &mut S, sink: &mut K) -> u8
-    ensures { Ending (record {
+// Reads the input, and writes what the command says of it.
+fn answer_input<S: Source, K: Sink>(
+    alloc: Global,
+    command: Command,
+    source: &mut S,
+    sink: &mut K,
+) -> u8
+    ensures { Ending command (record {
       left = S.left source.old;
       left' = S.left source.new;
       source_faults = S.faults source.old;
@@ -45,7 +46,7 @@ fn check_input<S: Source, K: Sink>(alloc: Global, source: &mut S, sink: &mut K) 
     }) result }
 {
     match read_all(alloc, source) {
-        Ok(input) => match answer_of(alloc, &input) {
+        Ok(input) => match answer_of(alloc, command, &input) {
             Ok(answer) => print(sink, &answer.text, answer.status),
             Err(_) => 9,
         },
@@ -60,22 +61,24 @@ fn check_input<S: Source, K: Sink>(alloc: Global, source: &mut S, sink: &mut K) 
 
 /// Runs the command that the words name over the source and the sink, and answers the exit status.
 ///
-/// `check` reads a network text with a plan text behind it, and writes whether the plan is a least-cost plan. The whole
-/// text is made before its first byte is written. The words are looked at first: where they are no command, nothing is
-/// read and no memory is taken.
+/// `check` reads a network text with a plan text behind it, and writes whether the plan is a least-cost plan. `expand`
+/// reads a network text, and writes its expanded network: a plain network with a node for each node in each period and an
+/// arc for each segment of each flow in each period. The whole text is made before its first byte is written. The words
+/// are looked at first: where they are no command, nothing is read and no memory is taken.
 ///
 /// | status | text | when |
 /// |---|---|---|
-/// | 0 | accepted, with the cost | no feasible plan costs less |
-/// | 4 | the operation | its exact result does not fit a fraction, and nothing before it in the walk fails |
-/// | 5 | the fault | the network text has this first fault; or it has none, and what stands there is not taken so far (`Later`); or the input has more than 16,777,216 bytes (`TooLong`) |
+/// | 0 | of `check`: accepted, with the cost | no feasible plan costs less |
+/// | 0 | of `expand`: the expanded network | the input is a network text, and nothing stands behind it |
+/// | 4 | the operation | of `check`: its exact result does not fit a fraction, and nothing before it in the walk fails |
+/// | 5 | the fault | the network text has this first fault; or, of `check`, it has none, and what stands there is not taken so far (`Later`); or the input has more than 16,777,216 bytes (`TooLong`) |
 /// | 6 | usage | the words are no command |
 /// | 7 | nothing | the source failed |
 /// | 8 | a part of a text | the sink failed |
 /// | 9 | nothing | memory ran out |
-/// | 10 | rejected, with the clause | this clause fails, and nothing before it in the walk |
+/// | 10 | rejected, with the clause | of `check`: this clause fails, and nothing before it in the walk |
 ///
-/// The handle and the gate are for commands that work in threads: `check` uses neither.
+/// The handle and the gate are for commands that work in threads: `check` and `expand` use neither.
 pub fn run<S: Source, K: Sink, G: Gate>(
     _rt: &(impl Threads + Sync),
     alloc: Global,
@@ -89,12 +92,19 @@ pub fn run<S: Source, K: Sink, G: Gate>(
     ensures unread { ¬ (IsCommand words.now) → source.new ≡ source.old }
     ensures usage { result ≡ 6 → (¬ (IsCommand words.now)) × Wrote (K.written sink.old) (K.written sink.new) usage_text }
 
-    // The whole input was read, and the text says this of it.
-    ensures accepted { result ≡ 0 → Gives (Says Accepts) (S.left source.old) (S.left source.new) (K.written sink.old) (K.written sink.new) }
-    ensures passed { result ≡ 4 → Gives (Says Passes) (S.left source.old) (S.left source.new) (K.written sink.old) (K.written sink.new) }
-    ensures rejected { result ≡ 10 → Gives (Says Rejects) (S.left source.old) (S.left source.new) (K.written sink.old) (K.written sink.new) }
-    ensures refused { result ≡ 5 → Gives IsFaulty (S.left source.old) (S.left source.new) (K.written sink.old) (K.written sink.new)
+    // `check` read the whole input, and the text says this of it.
+    ensures accepted { Names words.now command.Check → result ≡ 0 → Gives (Says Accepts) (S.left source.old) (S.left source.new) (K.written sink.old) (K.written sink.new) }
+    ensures passed { result ≡ 4 → Names words.now command.Check × Gives (Says Passes) (S.left source.old) (S.left source.new) (K.written sink.old) (K.written sink.new) }
+    ensures rejected { result ≡ 10 → Names words.now command.Check × Gives (Says Rejects) (S.left source.old) (S.left source.new) (K.written sink.old) (K.written sink.new) }
+    ensures refused { Names words.now command.Check → result ≡ 5
+        → Gives (IsFaulty tail.Plan) (S.left source.old) (S.left source.new) (K.written sink.old) (K.written sink.new)
         ⊎ Gives IsLater (S.left source.old) (S.left source.new) (K.written sink.old) (K.written sink.new)
+        ⊎ GivesTooLong (S.left source.old) (S.left source.new) (K.written sink.old) (K.written sink.new) }
+
+    // `expand` read the whole input, and the text is that of its expanded network, or names its first fault.
+    ensures expanded { Names words.now command.Expand → result ≡ 0 → Gives Expands (S.left source.old) (S.left source.new) (K.written sink.old) (K.written sink.new) }
+    ensures not_expanded { Names words.now command.Expand → result ≡ 5
+        → Gives (IsFaulty tail.Nothing) (S.left source.old) (S.left source.new) (K.written sink.old) (K.written sink.new)
         ⊎ GivesTooLong (S.left source.old) (S.left source.new) (K.written sink.old) (K.written sink.new) }
 
     // The source or the sink failed, or memory ran out.
@@ -103,8 +113,8 @@ pub fn run<S: Source, K: Sink, G: Gate>(
     ensures no_memory { result ≡ 9 → IsCommand words.now × (K.written sink.new ≡ K.written sink.old) }
     ensures known { IsStatus result }
 {
-    if !is_command(words) {
+    let Some(command) = command_of(words) else {
         return print(sink, USAGE, 6);
-    }
-    check_input(alloc, source, sink)
+    };
+    answer_input(alloc, command, source, sink)
 }

@@ -1,10 +1,10 @@
 use Rattle.std.proofs.Common.{◌∙◌, ap, Err}
-use Rattle.netplan_top.proofs.AnswerFacts.{ends_answered, ends_too_long}
-use Rattle.netplan_top.proofs.top.check_input.Goals as goal
+use Rattle.netplan_top.proofs.RunFacts.{ends_answered, ends_too_long}
+use Rattle.netplan_top.proofs.top.answer_input.Goals as goal
 
 pub returns-in-Ok-answer_of : goal.returns-in-Ok-answer_of
 returns-in-Ok-answer_of g c =
-    ends_answered (record {
+    ends_answered c.args.command (record {
       left = g.S.Source.left c.args.source.now;
       left' = g.S.Source.left c.read_all.new.source;
       source_faults = g.S.Source.faults c.args.source.now;
@@ -20,7 +20,7 @@ returns-in-Ok-answer_of g c =
 
 pub returns-in-Ok-refusal : goal.returns-in-Ok-refusal
 returns-in-Ok-refusal g c =
-    ends_too_long (record {
+    ends_too_long c.args.command (record {
       left = g.S.Source.left c.args.source.now;
       left' = g.S.Source.left c.read_all.new.source;
       source_faults = g.S.Source.faults c.args.source.now;

@@ -1,0 +1,18 @@
+use Rattle.std.proofs.Common.{◌≡◌}
+use Rattle.std.proofs.lemmas.Result.{IfOk-weaker}
+use Rattle.netplan_top.specs.Answers.{IsExpandAnswer, IsStopped}
+use Rattle.netplan_top.specs.NetText.{net_text}
+use Rattle.netplan_top.specs.Stops.{stop_of}
+use Rattle.netplan_top.specs.declared.answer.Answer.{Answer}
+use Rattle.netplan_top.proofs.AnswerFacts.{expand_made, expand_stopped}
+use Rattle.netplan_top.proofs.answer.expand_answer.Goals as goal
+
+pub returns-in-Ok : goal.returns-in-Ok
+returns-in-Ok c =
+    IfOk-weaker c.expanded.result (λ (a : Answer). (a.status ≡ 0) × (a.text.items ≡ net_text c.in-Ok.read.0)) (λ (a : Answer). IsExpandAnswer c.args.bytes.now a.status a.text.items)
+    (λ a made. expand_made c.args.bytes.now c.in-Ok.read.0 c.in-Ok.read.1 a.status a.text.items c.in-Ok.ensures made.0 made.1) c.expanded.ensures
+
+pub returns-in-Err : goal.returns-in-Err
+returns-in-Err c =
+    IfOk-weaker c.stopped.result (λ (a : Answer). IsStopped (stop_of c.in-Err.refused) a.status a.text.items) (λ (a : Answer). IsExpandAnswer c.args.bytes.now a.status a.text.items)
+    (λ a told. expand_stopped c.args.bytes.now c.in-Err.refused a.status a.text.items c.in-Err.ensures told) (rw c.stop_of.ensures at c.stopped.ensures)
