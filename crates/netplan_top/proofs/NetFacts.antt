@@ -11,10 +11,11 @@ use Rattle.np_model.specs.declared.arc.NetArc.{NetArc}
 use Rattle.np_model.specs.declared.scheme.Band.{Band}
 use Rattle.np_model.specs.Stages.{Stage}
 use Rattle.period_expand.specs.Expansion.{segment_count}
-use Rattle.convex_arcs.specs.Segments.{first_arc, band_arc}
+use Rattle.np_model.specs.Schemes.{staged}
+use Rattle.convex_arcs.specs.Segments.{first_arc, band_arc, segment_arcs, flat_arcs}
 use Rattle.np_model.specs.declared.scheme.Scheme.{Scheme}
 use Rattle.netplan_top.specs.Texts.{end_record}
-use Rattle.netplan_top.specs.NetText.{numbered_segments, size_record, node_records, arc_records, net_text}
+use Rattle.netplan_top.specs.NetText.{numbered_segments, segment_arc, arc_record, size_record, node_records, arc_records, net_text}
 
 -- ---- numbered elements
 
@@ -126,3 +127,20 @@ pub whole-net : (scheme : Scheme) (a b c d : List ℕ) → a ≡ [] ++ records_t
     → c ≡ b ++ records_text (arc_records scheme) → d ≡ c ++ record_text end_record → d ≡ net_text scheme
 unfolding net_text
 whole-net scheme a b c d ha hb hc hd = whole-text ((codes "netplan-net" ∷ codes "1" ∷ []) ∷ size_record scheme ∷ []) (node_records scheme) (arc_records scheme) end_record a b c d ha hb hc hd
+
+-- ---- what the text lists
+
+segment-arcs : (s : Stage) (n : ℕ) (xs : List NetArc) → map segment_arc (map (λ segment. (s, segment)) (enumerate_from n xs)) ≡ xs
+segment-arcs s n [] = refl
+segment-arcs s n (a ∷ xs) = ap (λ l. a ∷ l) (segment-arcs s (n + 1) xs)
+
+pub listed-arcs : (stages : List Stage) → map segment_arc (flat_map numbered_segments stages) ≡ flat_arcs stages
+listed-arcs [] = refl
+listed-arcs (s ∷ stages) =
+    map-append segment_arc (numbered_segments s) (flat_map numbered_segments stages)
+    ∙ ap (λ (l : List NetArc). l ++ map segment_arc (flat_map numbered_segments stages)) (segment-arcs s 0 (segment_arcs s)) ∙ ap (λ (l : List NetArc). segment_arcs s ++ l) (listed-arcs stages)
+
+pub listed-count : (scheme : Scheme) → length (arc_records scheme) ≡ length (flat_arcs (staged scheme))
+listed-count scheme =
+    let all = flat_map numbered_segments (staged scheme) in
+    length-map (enumerate_from 0 all) (arc_record scheme.flows) ∙ length-enumerate_from 0 all ∙ sym (length-map all segment_arc) ∙ ap (λ (l : List NetArc). length l) (listed-arcs (staged scheme))

@@ -43,6 +43,9 @@ arc_fields a = ends_fields a.ends ++ (printed a.lower ∷ upper_field a.upper �
 abbrev pub numbered_segments : Stage → List (Stage × (ℕ × NetArc))
 numbered_segments s = map (λ segment. (s, segment)) (enumerate_from 0 (segment_arcs s))
 
+abbrev pub segment_arc : Stage × (ℕ × NetArc) → NetArc
+segment_arc (s, (segment, a)) = a
+
 -- the arc with this number: a segment of a stage
 abbrev pub arc_record : List Flow → ℕ × (Stage × (ℕ × NetArc)) → List (List ℕ)
 arc_record flows (number, (s, (segment, a))) =

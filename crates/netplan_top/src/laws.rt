@@ -1,11 +1,16 @@
 //! Laws of what is read and of what is said of it, as the clauses of functions that do nothing.
 
-ghost use Rattle.std.specs.Prelude.{◌≡◌, ℕ, List};
+ghost use Rattle.std.specs.Prelude.{◌≡◌, ℕ, List, length, map};
+ghost use Rattle.std.specs.List.{flat_map};
 ghost use Rattle.np_model.specs.declared.scheme.Scheme.{Scheme};
 ghost use Rattle.np_model.specs.declared.plan.Plan.{Plan};
+ghost use Rattle.np_model.specs.Schemes.{staged};
+ghost use Rattle.np_model.specs.Stages.{Stage};
+ghost use Rattle.convex_arcs.specs.Segments.{flat_arcs};
 ghost use Rattle.netplan_top.specs.declared.words.Command.{Command};
 ghost use Rattle.netplan_top.specs.Reads.{Reads};
 ghost use Rattle.netplan_top.specs.Answers.{AnswerOf};
+ghost use Rattle.netplan_top.specs.NetText.{numbered_segments, segment_arc, arc_records};
 
 use net_csv::laws::one_scheme;
 
@@ -24,3 +29,9 @@ pub fn one_answer()
 {
     one_scheme();
 }
+
+/// The text of an expanded network lists the arcs of that network in order and no others, and its size record counts them.
+pub fn listed_arcs()
+    ensures arcs { (stages : List Stage) → map segment_arc (flat_map numbered_segments stages) ≡ flat_arcs stages }
+    ensures count { (scheme : Scheme) → length (arc_records scheme) ≡ length (flat_arcs (staged scheme)) }
+{}
