@@ -2,7 +2,7 @@
 
 ghost use Rattle.std.specs.Prelude.{◌≡◌, ◌≢◌, ◌*◌, ◌*ℤ◌, ◌≤ℤ◌, ◌↔◌, ◌⊎◌, IsNone, IfSome, IsTrue, pos, neg_ℤ, ◌<◌, ◌^◌, unsigned_abs};
 ghost use Rattle.np_frac.specs.Ratio.{IsLowest, over_some, whole, negated, inverse, is_below, ◌+ᵣ◌, ◌*ᵣ◌};
-ghost use Rattle.np_frac.specs.Lowest.{Fit, IsFound, IsSumFound};
+ghost use Rattle.np_frac.specs.Lowest.{Fit, Fits, IsFound, IsSumFound};
 ghost use Rattle.np_frac.specs.Order.{ratio_cmp, ratio_eq};
 
 use crate::divisor::{gcd, reduced, reduced_by_shared};
@@ -87,9 +87,10 @@ impl Frac {
         }
     }
 
-    /// The numerator in lowest terms, which has the sign.
+    /// The numerator in lowest terms, which has the sign. Like the denominator it is at most 2^127 - 1 in size.
     pub fn num(self) -> i128
-        ensures { result ≡ self.num }
+        ensures value { result ≡ self.num }
+        ensures fits { Fits self }
     {
         self.num
     }

@@ -2,6 +2,7 @@
 
 ghost use Rattle.std.specs.Prelude.{◌≡◌, ◌≤◌, ◌<◌, ◌^◌, ◌++◌, OnOk, OnErr, IfSome};
 ghost use Rattle.std.specs.Option.{SomeIff};
+ghost use Rattle.np_frac.specs.Lowest.{Fits};
 ghost use Rattle.np_frac.specs.Text.{printed, IsFraction, fraction_of, IsFractionEnd, fraction_lower as lower_of};
 
 use crate::digits::{read_part, split_at_mark, with_sign, without_minus};
@@ -14,8 +15,11 @@ const LONGEST: usize = 81;
 
 /// Appends the printed form: the numerator of the lowest terms, with `-` where it is below 0, and `/` and the
 /// denominator where that is not 1. After [`Memory`] the text is as it was.
+///
+/// Each part is at most 2^127 - 1 in size, so [`read_frac`] reads the printed form back (`laws::printed_forms`).
 pub fn write_frac(value: Frac, out: &mut Vec<u8>) -> Result<(), Memory>
     ensures ok { OnOk result (out.new.items ≡ out.old.items ++ printed value) }
+    ensures fits { OnOk result (Fits value) }
     ensures err { OnErr result (out.new.items ≡ out.old.items) }
 {
     // All the memory is taken first, so that a refusal comes before the first byte.
