@@ -1,6 +1,6 @@
 //! The list types: each is its `Vec`, and a contract sees the list of its elements.
 
-ghost use Rattle.std.specs.Prelude.{◌≡◌};
+ghost use Rattle.std.specs.Prelude.{◌≡◌, [], slice_index_or};
 
 use np_frac::Frac;
 use std::marker::Model;
@@ -72,5 +72,17 @@ impl Names {
         ensures { result.now ≡ self.now }
     {
         self.items.as_slice()
+    }
+
+    /// The name with this number, from 0, and the empty name where there is none.
+    pub fn name_at(&self, number: usize) -> &[u8]
+        ensures { result.now ≡ slice_index_or self.now number [] }
+    {
+        let names = self.items.as_slice();
+        if number < names.len() {
+            names[number].as_slice()
+        } else {
+            b""
+        }
     }
 }

@@ -1,6 +1,6 @@
 //! A planning problem as its text gives it: nodes and flows over periods, with convex costs.
 
-ghost use Rattle.std.specs.Prelude.{◌≡◌};
+ghost use Rattle.std.specs.Prelude.{◌≡◌, [], map, slice_index_or};
 ghost use Rattle.np_model.specs.Valid.{IsScheme, IsScheme-prop};
 
 use crate::arc::Upper;
@@ -84,6 +84,18 @@ impl Flows {
         ensures { result.now ≡ self.now }
     {
         self.items.as_slice()
+    }
+
+    /// The name of the flow with this number, from 0, and the empty name where there is none.
+    pub fn name_at(&self, number: usize) -> &[u8]
+        ensures { result.now ≡ slice_index_or (map (λ flow. flow.name) self.now) number [] }
+    {
+        let flows = self.items.as_slice();
+        if number < flows.len() {
+            flows[number].name.as_slice()
+        } else {
+            b""
+        }
     }
 }
 
