@@ -1,5 +1,5 @@
 -- The text of an amount is one, and reading it gives the amount back.
-use Rattle.std.specs.Prelude.{◌≡◌, ℕ, suc, ◌+◌, ◌*◌, ◌/◌, ◌%◌, ◌^◌, ◌<◌, ◌≤◌, ◌==◌, ◌&&◌, nat_lt, nat_le, max, not, Bool, true, false, ℤ, pos, negsuc, neg_ℤ, ◌*ℤ◌, unsigned_abs, List, [], ◌∷◌, ◌++◌, length, drop, if◌then◌else◌}
+use Rattle.std.specs.Prelude.{◌≡◌, ℕ, suc, ◌+◌, ◌*◌, ◌/◌, ◌%◌, ◌^◌, ◌<◌, ◌≤◌, ◌==◌, nat_lt, nat_le, max, not, Bool, true, false, ℤ, pos, negsuc, neg_ℤ, ◌*ℤ◌, unsigned_abs, List, [], ◌∷◌, ◌++◌, length, drop, if◌then◌else◌}
 use Rattle.std.specs.List.{position_or_len}
 use Rattle.std.specs.Char.{digit_value}
 use Rattle.std.specs.Int.{IsInRange}
@@ -21,15 +21,7 @@ use Rattle.np_frac.specs.Text.{point, stroke, is_mark, printed, unsigned_part, s
 use Rattle.np_frac.specs.Amount.{IsAmount, IsAmountEnd, amount_of, amount_upper, amount_lower, is_short, is_decimal, is_amount}
 use Rattle.net_csv.specs.Fields.{is_amount_text}
 use Rattle.net_csv.specs.AmountText.{minus_sign, billionths, nine_digits, decimal_form, amount_text}
-use Rattle.net_csv.proofs.FieldFacts.{amount-is}
-
-and-left : (a b : Bool) → (a && b) ≡ true → a ≡ true
-and-left true b h = refl
-and-left false b h = absurd (cc h)
-
-and-right : (a b : Bool) → (a && b) ≡ true → b ≡ true
-and-right true b h = h
-and-right false b h = absurd (cc h)
+use Rattle.net_csv.proofs.FieldFacts.{amount-is, and-left, and-right}
 
 -- ---- nine digits
 

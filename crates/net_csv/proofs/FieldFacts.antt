@@ -4,7 +4,7 @@ use Rattle.std.specs.List.{list_all}
 use Rattle.std.specs.Char.{digit_value}
 use Rattle.std.specs.Str.Parse.{AllDigits}
 use Rattle.std.proofs.Common.{refl, inl, inr, arith}
-use Rattle.std.proofs.lemmas.Bool.{cases_Bool}
+use Rattle.std.proofs.lemmas.Bool.{and_parts, cases_Bool}
 use Rattle.std.proofs.lemmas.Bool.Decides.{nat_tests}
 use Rattle.np_frac.specs.Text.{IsNumber, number, point, unsigned_part, before_mark, from_mark}
 use Rattle.std.specs.Option.{SomeIff, ok_or}
@@ -12,7 +12,8 @@ use Rattle.np_frac.specs.Ratio.{Ratio}
 use Rattle.np_frac.specs.Amount.{IsAmount, IsAmountEnd, amount_of}
 use Rattle.net_csv.specs.declared.refused.Code.{Code}
 use Rattle.net_csv.specs.declared.refused.Code.TheVariants as code
-use Rattle.net_csv.specs.Fields.{Reads, amount_fault, is_digit, is_number, is_period, is_amount_end, is_amount_text}
+use Rattle.np_records.specs.Faults.{Reads}
+use Rattle.net_csv.specs.Fields.{amount_fault, is_digit, is_number, is_period, is_amount_end, is_amount_text}
 
 digit-is : (c : ℕ) → digit_value c < 10 → is_digit c ≡ true
 digit-is c h = grind (arith, nat_tests)
@@ -24,13 +25,11 @@ digits-are : (ds : List ℕ) → AllDigits 10 ds → list_all is_digit ds ≡ tr
 digits-are [] h = refl
 digits-are (c ∷ cs) h = rw (digit-is c h.0, digits-are cs h.1) refl
 
-and-left : (a b : Bool) → (a && b) ≡ true → a ≡ true
-and-left true b h = refl
-and-left false b h = absurd (cc h)
+pub and-left : (a b : Bool) → (a && b) ≡ true → a ≡ true
+and-left a b h = (and_parts a b h).0
 
-and-right : (a b : Bool) → (a && b) ≡ true → b ≡ true
-and-right true b h = h
-and-right false b h = absurd (cc h)
+pub and-right : (a b : Bool) → (a && b) ≡ true → b ≡ true
+and-right a b h = (and_parts a b h).1
 
 digits-all : (ds : List ℕ) → list_all is_digit ds ≡ true → AllDigits 10 ds
 digits-all [] h = tt

@@ -1,30 +1,22 @@
 -- A record without a fault: its names are defined, and the tables grow by it.
 use Rattle.std.specs.Prelude.{◌≡◌, ℕ, true, false, IsSome, is_some, Option, Some, None, List, [], ◌∷◌, ◌++◌, codes}
 use Rattle.std.specs.List.{AllByRecursion}
-use Rattle.std.specs.Option.{option_or}
 use Rattle.std.proofs.Common.{refl, inl, inr}
 use Rattle.std.proofs.lemmas.Bool.{cases_Bool}
 use Rattle.std.proofs.lemmas.List.Elements.{filter_map-append}
 use Rattle.np_records.specs.Records.{field_of}
 use Rattle.np_records.specs.Names.{place_of}
 use Rattle.np_model.specs.Valid.{expanded_arcs}
-use Rattle.net_csv.specs.declared.refused.Code.{Code}
+use Rattle.np_records.proofs.FaultFacts.{or-first, or-rest}
 use Rattle.net_csv.specs.declared.refused.Code.TheVariants.{NoSuchName}
-use Rattle.net_csv.specs.Fields.{unless, used_fault}
+use Rattle.np_records.specs.Faults.{unless}
+use Rattle.net_csv.specs.Fields.{used_fault}
 use Rattle.net_csv.specs.Network.{is_kind, is_flow, node_names, flow_names, flows_of, defined_node, defined_flow}
 use Rattle.net_csv.specs.Faults.{body_fault, supply_fault, flow_fault, piece_fault, kind_fault, head_fault}
 use Rattle.net_csv.specs.Tables.{tables_of, with_record}
 use Rattle.net_csv.proofs.Places.{all-push}
 use Rattle.net_csv.proofs.RowKinds.{IsFine, kind-is, fine-kept, all_fine-kept}
 use Rattle.net_csv.proofs.Steps.{flow-apart, tables-node, tables-supply, tables-flow, tables-piece}
-
-pub or-first : (a b : Option Code) → option_or a b ≡ None → a ≡ None
-or-first None b h = refl
-or-first (Some c) b h = absurd (cc h)
-
-pub or-rest : (a b : Option Code) → option_or a b ≡ None → b ≡ None
-or-rest None b h = h
-or-rest (Some c) b h = absurd (cc h)
 
 pub used-some : (ns : List (List ℕ)) (n : List ℕ) → used_fault ns n ≡ None → IsSome (place_of ns n)
 used-some ns n h = by (place_of ns n) h

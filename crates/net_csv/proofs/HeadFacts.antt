@@ -5,7 +5,7 @@ use Rattle.std.proofs.lemmas.Bool.Decides.{nat_tests}
 use Rattle.net_csv.specs.declared.refused.Code.{Code}
 use Rattle.net_csv.specs.declared.refused.Code.TheVariants as code
 use Rattle.net_csv.specs.declared.refused.Refused.TheVariants as refused
-use Rattle.net_csv.specs.Fields.{unless}
+use Rattle.np_records.specs.Faults.{unless}
 use Rattle.net_csv.specs.Grammar.{is_header, periods_fault, fault_at, stops_at}
 use Rattle.net_csv.specs.Reading.{RefusesAt}
 use Rattle.net_csv.proofs.Stops.{refuses-at}

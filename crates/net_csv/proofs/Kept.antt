@@ -4,7 +4,7 @@ use Rattle.std.specs.List.{All, list_all}
 use Rattle.std.specs.Option.{option_map_or, option_and_then}
 use Rattle.std.specs.Str.{bytes_eq}
 use Rattle.std.proofs.Common.{refl, subst, sym, ap, ◌∙◌, inl, inr, arith}
-use Rattle.std.proofs.lemmas.Bool.{cases_Bool}
+use Rattle.std.proofs.lemmas.Bool.{and_parts, cases_Bool}
 use Rattle.std.proofs.lemmas.Bool.Decides.{nat_tests}
 use Rattle.std.proofs.lemmas.List.{length_push, map-append}
 use Rattle.std.proofs.lemmas.List.Elements.{All-nil, All-head, All-tail, All-push, All-set, All-weaker}
@@ -27,13 +27,14 @@ use Rattle.np_model.specs.Stages.{IsUnder, IsConvexFrom}
 use Rattle.np_model.specs.Valid.{AreNames, IsSound, JoinsNodes, HasGain, AreReached, is_name, is_amount_or_infinite, has_amount_gain}
 use Rattle.net_csv.specs.declared.given.Given.{Given}
 use Rattle.net_csv.specs.declared.refused.Code.TheVariants as code
-use Rattle.net_csv.specs.Fields.{fields_fault, period_fault, unless, new_fault, used_fault, amount_fault, is_all, is_period, period_of, upper_fault, gain_fault, upper_of, place_in, is_infinite, is_number}
+use Rattle.np_records.specs.Faults.{unless}
+use Rattle.net_csv.specs.Fields.{fields_fault, period_fault, new_fault, used_fault, amount_fault, is_all, is_period, period_of, upper_fault, gain_fault, upper_of, place_in, is_infinite, is_number}
 use Rattle.net_csv.specs.Network.{is_kind, is_flow, kind_in, bounds_place}
 use Rattle.net_csv.specs.Faults.{is_at_most, is_wide, is_finite, has_finite_end, present_slope, record_fault, kind_fault, flow_fields, numbers_fault, ends_fault, bounds_fault, head_fault, flow_fault, band_fault, band_of, piece_fault, node_fault, supply_fault, nodes_fault}
 use Rattle.net_csv.specs.Tables.{Tables, no_tables, AreKept, IsGiven, supply_of, with_record, with_node, with_supply, with_flow, with_piece, band_added, banded, plain_flow, numbers_of}
 use Rattle.net_csv.proofs.FieldFacts.{amount-reads}
-use Rattle.net_csv.proofs.Fine.{or-first, or-rest, used-some}
-use Rattle.net_csv.proofs.Room.{unless-none}
+use Rattle.np_records.proofs.FaultFacts.{or-first, or-rest, unless-none}
+use Rattle.net_csv.proofs.Fine.{used-some}
 use Rattle.net_csv.proofs.Steps.{there}
 use Rattle.net_csv.proofs.Places.{place-within, places-differ, distinct-push, distinct-none}
 
@@ -169,10 +170,6 @@ flow-sound ns names r h = record {
 
 -- ---- a band
 
-and-both : (a b : Bool) → (a && b) ≡ true → (a ≡ true) × (b ≡ true)
-and-both true b h = (refl, h)
-and-both false b h = absurd (cc h)
-
 band-sound : (n periods arcs : ℕ) (band : Band) (f : Flow) → IsSound n f → (is_amount_or_infinite band.width && is_amount band.slope) ≡ true → band_fault periods arcs band f ≡ None
     → IsSound n (banded f band)
 band-sound n periods arcs band f s amounts h =
@@ -182,7 +179,7 @@ band-sound n periods arcs band f s amounts h =
     let width = unless-none _ _ (or-first (unless (is_wide band.width) code.BadBounds) _ wide_on) in
     let slope = unless-none _ _ (or-first (unless (not (is_below band.slope (present_slope f))) code.NotConvex) _ slope_on) in
     let banded_ok = λ (b : Band). is_amount_or_infinite b.width && is_amount b.slope in
-    let rest = and-both (has_amount_gain f.kind && is_amount f.lower && is_amount_or_infinite f.upper && is_amount f.cost) (list_all banded_ok f.bands) s.amounts in
+    let rest = and_parts (has_amount_gain f.kind && is_amount f.lower && is_amount_or_infinite f.upper && is_amount f.cost) (list_all banded_ok f.bands) s.amounts in
     record {
       joins = s.joins;
       gain = s.gain;
@@ -227,8 +224,8 @@ period-right periods bs h = elim (cases_Bool (is_all bs)) [
   | inl t ↦ rw t tt
   | inr f ↦
       let all : is_period periods bs ≡ true = unless-none _ _ (rw f at h) in
-      let high = and-both (is_number 9 bs && nat_le 1 (number bs)) (nat_le (number bs) periods) all in
-      let low = and-both (is_number 9 bs) (nat_le 1 (number bs)) high.0 in
+      let high = and_parts (is_number 9 bs && nat_le 1 (number bs)) (nat_le (number bs) periods) all in
+      let low = and_parts (is_number 9 bs) (nat_le 1 (number bs)) high.0 in
       rw f (let a = low.1 in grind (arith, nat_tests), let b = high.1 in grind (arith, nat_tests))
 ]
 

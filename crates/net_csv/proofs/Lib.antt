@@ -1,7 +1,7 @@
-mod FieldFacts
+pub mod FieldFacts
 mod TakeFacts
-mod Places
-mod RowKinds
+pub mod Places
+pub mod RowKinds
 mod FlowLists
 mod Steps
 mod Fine
@@ -15,7 +15,7 @@ mod SupplyFacts
 mod SchemeValid
 mod AmountTexts
 mod Runs
-mod WrittenNames
+pub mod WrittenNames
 mod WrittenFields
 mod WrittenFlows
 mod WrittenBands
@@ -23,5 +23,6 @@ mod WrittenSupplies
 mod WrittenNodes
 mod Written
 mod OneScheme
+pub mod CountWithin
 mod WrittenTexts
 mod SmallScheme

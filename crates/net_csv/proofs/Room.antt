@@ -1,7 +1,7 @@
 -- A record without a fault leaves room in the tables.
-use Rattle.std.specs.Prelude.{◌≡◌, ℕ, suc, zero, ◌+◌, ◌*◌, ◌<◌, ◌≤◌, nat_le, not, Bool, true, false, Option, Some, None, List, length, slice_get, codes}
+use Rattle.std.specs.Prelude.{◌≡◌, ℕ, suc, zero, ◌+◌, ◌*◌, ◌<◌, ◌≤◌, nat_le, not, true, Option, Some, None, List, length, slice_get, codes}
 use Rattle.std.specs.Option.{option_map_or, option_and_then}
-use Rattle.std.proofs.Common.{refl, inl, inr, arith}
+use Rattle.std.proofs.Common.{inl, inr, arith}
 use Rattle.std.proofs.lemmas.Bool.{cases_Bool}
 use Rattle.std.proofs.lemmas.Bool.Decides.{nat_tests}
 use Rattle.std.proofs.lemmas.List.{length_push, length-set}
@@ -10,17 +10,13 @@ use Rattle.np_records.specs.Records.{field_of}
 use Rattle.np_model.specs.declared.scheme.Band.{Band}
 use Rattle.np_model.specs.declared.scheme.Flow.{Flow}
 use Rattle.np_model.specs.Valid.{periods_of}
-use Rattle.net_csv.specs.declared.refused.Code.{Code}
+use Rattle.np_records.proofs.FaultFacts.{or-first, or-rest, unless-none}
 use Rattle.net_csv.specs.declared.refused.Code.TheVariants as code
-use Rattle.net_csv.specs.Fields.{amount_fault, upper_fault, used_fault, fields_fault, unless, place_in}
+use Rattle.np_records.specs.Faults.{unless}
+use Rattle.net_csv.specs.Fields.{amount_fault, upper_fault, used_fault, fields_fault, place_in}
 use Rattle.net_csv.specs.Network.{is_kind, is_flow, kind_in, bounds_place}
 use Rattle.net_csv.specs.Faults.{record_fault, piece_fault, nodes_fault, arcs_fault, band_fault, band_of, head_fault, present_slope, is_wide, has_finite_end}
 use Rattle.net_csv.specs.Tables.{Tables, HasRoom, with_record, with_node, with_supply, with_flow, with_piece, band_added, banded, plain_flow, numbers_of}
-use Rattle.net_csv.proofs.Fine.{or-first, or-rest}
-
-pub unless-none : (b : Bool) (c : Code) → unless b c ≡ None → b ≡ true
-unless-none true c h = refl
-unless-none false c h = absurd (cc h)
 
 le-times : (n k m : ℕ) → 0 < k → n * k ≤ m → n ≤ m
 le-times n zero m h l = absurd (omega arith)

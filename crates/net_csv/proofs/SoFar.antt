@@ -17,7 +17,8 @@ use Rattle.net_csv.specs.Tables.{Tables, TakesRow, HasRoom, AreKept, IsReady, ta
 use Rattle.net_csv.specs.Reading.{IsHeadRead, IsTextRead, RefusesAt}
 use Rattle.net_csv.proofs.RowKinds.{IsFine}
 use Rattle.net_csv.proofs.Fine.{fine-none, fine-more, tables-more}
-use Rattle.net_csv.proofs.Room.{room-more, unless-none}
+use Rattle.np_records.proofs.FaultFacts.{unless-none}
+use Rattle.net_csv.proofs.Room.{room-more}
 use Rattle.net_csv.proofs.Steps.{flows-count}
 use Rattle.net_csv.proofs.Kept.{kept-none, kept-more}
 use Rattle.net_csv.proofs.Stops.{stop-is, refuses-at}

@@ -4,7 +4,7 @@ use Rattle.std.proofs.Common.{refl}
 use Rattle.net_csv.specs.declared.refused.Code.{Code}
 use Rattle.net_csv.specs.declared.refused.Stop.{Stop}
 use Rattle.net_csv.specs.declared.refused.Stop.TheVariants as stop
-use Rattle.net_csv.specs.Fields.{first_fault}
+use Rattle.np_records.specs.Faults.{first_fault}
 use Rattle.net_csv.specs.Tables.{Tables, Takes}
 
 -- where only the last of five tests is left, it tells

@@ -1,8 +1,8 @@
 -- The bytes that are written are the text of the records, and are read as these.
 use Rattle.std.specs.Prelude.{◌≡◌, ◌≢◌, ℕ, ◌+◌, ◌<◌, Ok, Some, None, Option, List, [], ◌∷◌, ◌++◌, length, map, take, get_or, codes, decimal}
-use Rattle.std.specs.List.{AllByRecursion, filter_map, flat_map, enumerate_from}
+use Rattle.std.specs.List.{All, AllByRecursion, filter_map, flat_map, enumerate_from}
 use Rattle.std.specs.Option.{option_map_or}
-use Rattle.std.proofs.Common.{refl, sym, ap, ◌∙◌, arith, append_assoc}
+use Rattle.std.proofs.Common.{refl, subst, sym, ap, ◌∙◌, arith, append_assoc}
 use Rattle.std.proofs.lemmas.List.{append-nil, take_more, flat_map_more, length-take-le}
 use Rattle.std.proofs.lemmas.List.Concat.{flat_map-append}
 use Rattle.std.proofs.lemmas.List.Elements.{filter_map-append, All-from_recursion, All-append, All-cons, All-nil}
@@ -66,16 +66,22 @@ runs-full [] t u h = tt
 runs-full ([] ∷ rs) t u h = absurd (cc h.0.right)
 runs-full ((x ∷ xs) ∷ rs) t u h = (λ e. cc e, runs-full rs (with_record t (x ∷ xs)) u h.1)
 
-pub written-records : (s : Scheme) → records_of (records_text (rows_of s)) ≡ rows_of s
-written-records s =
+-- with any other records behind them that have a field each
+pub written-followed : (s : Scheme) (after : List (List (List ℕ))) → All (λ fields. fields ≢ []) after → records_of (records_text (rows_of s ++ after)) ≡ rows_of s ++ after
+written-followed s after full =
     let first = codes "netplan" ∷ codes "1" ∷ [] in
     let second = codes "periods" ∷ decimal s.periods ∷ [] in
     let end = codes "end" ∷ [] in
     let body = All-from_recursion (λ fields. fields ≢ []) (body_rows s) (runs-full (body_rows s) _ _ (runs-body s)) in
     let rest = All-append (λ fields. fields ≢ []) (body_rows s) (end ∷ []) body (All-cons (λ fields. fields ≢ []) end [] (λ e. cc e) (All-nil (λ fields. fields ≢ []))) in
-    let all = All-cons (λ fields. fields ≢ []) second (body_rows s ++ end ∷ []) (λ e. cc e) rest in
-    records-headed 110 (codes "etplan") (codes "1" ∷ []) (second ∷ (body_rows s ++ end ∷ [])) (omega arith)
-    ∙ ap (λ (rows : List (List (List ℕ))). first ∷ rows) (back-whole (second ∷ (body_rows s ++ end ∷ [])) all)
+    let more = All-append (λ fields. fields ≢ []) (body_rows s ++ end ∷ []) after rest full in
+    let all = All-cons (λ fields. fields ≢ []) second ((body_rows s ++ end ∷ []) ++ after) (λ e. cc e) more in
+    records-headed 110 (codes "etplan") (codes "1" ∷ []) (second ∷ ((body_rows s ++ end ∷ []) ++ after)) (omega arith)
+    ∙ ap (λ (rows : List (List (List ℕ))). first ∷ rows) (back-whole (second ∷ ((body_rows s ++ end ∷ []) ++ after)) all)
+
+written-records : (s : Scheme) → records_of (records_text (rows_of s)) ≡ rows_of s
+written-records s =
+    subst (λ (rows : List (List (List ℕ))). records_of (records_text rows) ≡ rows) (append-nil (rows_of s)) (written-followed s [] (All-nil (λ fields. fields ≢ [])))
 
 pub read-back : (s : Scheme) (bytes : List ℕ) → bytes ≡ records_text (rows_of s)
     → (t : Tail) → (read_records t (records_of bytes) ≡ Ok (length (rows_of s))) × IsSchemeOf (records_of bytes) s

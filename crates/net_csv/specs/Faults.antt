@@ -13,7 +13,8 @@ use Rattle.np_model.specs.declared.scheme.Flow.{Flow}
 use Rattle.np_model.specs.Valid.{periods_of, expanded_arcs}
 use Rattle.net_csv.specs.declared.refused.Code.{Code}
 use Rattle.net_csv.specs.declared.refused.Code.TheVariants as code
-use Rattle.net_csv.specs.Fields.{first_fault, unless, fields_fault, new_fault, used_fault, gain_fault, amount_fault, upper_fault, period_fault, upper_of, place_in}
+use Rattle.np_records.specs.Faults.{first_fault, unless}
+use Rattle.net_csv.specs.Fields.{fields_fault, new_fault, used_fault, gain_fault, amount_fault, upper_fault, period_fault, upper_of, place_in}
 use Rattle.net_csv.specs.Network.{is_kind, is_flow, kind_in, bounds_place, node_names, flow_names, flows_of}
 
 -- ---- bounds, ends and bands

@@ -1,5 +1,5 @@
 -- The fields of network texts: what each one stands for, and what is wrong with it.
-use Rattle.std.specs.Prelude.{ℕ, ◌==◌, ◌&&◌, ◌||◌, nat_lt, nat_le, not, Bool, true, Option, Some, None, is_some, unwrap_or, Result, Ok, Err, ◌≡◌, List, [], ◌∷◌, length, codes, if◌then◌else◌}
+use Rattle.std.specs.Prelude.{ℕ, ◌==◌, ◌&&◌, ◌||◌, nat_lt, nat_le, not, Bool, true, Option, Some, None, is_some, unwrap_or, List, [], ◌∷◌, length, codes, if◌then◌else◌}
 use Rattle.std.specs.List.{list_all}
 use Rattle.std.specs.Option.{option_or}
 use Rattle.std.specs.Str.{bytes_eq}
@@ -10,24 +10,9 @@ use Rattle.np_records.specs.Names.{place_of}
 use Rattle.np_model.specs.declared.arc.Upper.{Upper}
 use Rattle.np_model.specs.declared.arc.Upper.TheVariants.{Finite, Infinite}
 use Rattle.np_model.specs.Valid.{is_name}
+use Rattle.np_records.specs.Faults.{unless}
 use Rattle.net_csv.specs.declared.refused.Code.{Code}
 use Rattle.net_csv.specs.declared.refused.Code.TheVariants as code
-
--- ---- tests, and what reading gives
-
--- what is wrong where a test fails
-abbrev pub unless : Bool → Code → Option Code
-unless passes c = if passes then None else Some c
-
--- the first fault of tests that are made in order
-abbrev pub first_fault : List (Option Code) → Option Code
-first_fault [] = None
-first_fault (test ∷ tests) = option_or test (first_fault tests)
-
--- the value where there is no fault, and the fault where there is one
-abbrev pub Reads : {Y : Type 0} → Result Y Code → Option Code → Y → Type 0
-Reads (Ok x) fault value = (fault ≡ None) × (x ≡ value)
-Reads (Err c) fault value = fault ≡ Some c
 
 -- ---- numbers
 

@@ -11,7 +11,8 @@ use Rattle.net_csv.specs.declared.refused.Code.{Code}
 use Rattle.net_csv.specs.declared.refused.Code.TheVariants as code
 use Rattle.net_csv.specs.declared.refused.Tail.{Tail}
 use Rattle.net_csv.specs.declared.refused.Tail.TheVariants as tail
-use Rattle.net_csv.specs.Fields.{first_fault, unless, fields_fault, is_period}
+use Rattle.np_records.specs.Faults.{first_fault, unless}
+use Rattle.net_csv.specs.Fields.{fields_fault, is_period}
 use Rattle.net_csv.specs.Network.{is_kind, node_names, supplies_of, supply_from, flows_of}
 use Rattle.net_csv.specs.Faults.{body_fault}
 

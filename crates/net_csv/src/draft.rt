@@ -6,7 +6,7 @@ ghost use Rattle.csv.specs.Records.{fields_of};
 ghost use Rattle.np_records.specs.Names.{place_of};
 ghost use Rattle.np_model.specs.Valid.{periods_of};
 ghost use Rattle.net_csv.specs.declared.refused.Stop.{Stop};
-ghost use Rattle.net_csv.specs.Fields.{Reads};
+ghost use Rattle.np_records.specs.Faults.{Reads};
 ghost use Rattle.net_csv.specs.Faults.{node_fault, supply_fault, head_fault, flow_fault, piece_fault, band_fault, record_fault, has_finite_end, present_slope};
 ghost use Rattle.net_csv.specs.Tables.{HasRoom, IsMadeOf, IsReady, Takes, head_of, no_tables, plain_flow, flow_added, band_added, banded, with_node, with_supply, with_flow, with_piece, with_record};
 

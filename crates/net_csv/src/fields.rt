@@ -8,7 +8,8 @@ ghost use Rattle.np_frac.specs.Amount.{amount_of, is_amount};
 ghost use Rattle.np_records.specs.Names.{place_of};
 ghost use Rattle.np_model.specs.Valid.{is_graphic, is_name, is_amount_or_infinite};
 ghost use Rattle.csv.specs.Records.{fields_of};
-ghost use Rattle.net_csv.specs.Fields.{Reads, is_period, amount_fault, upper_fault, upper_of, gain_fault, period_fault, period_of, new_fault, used_fault, place_in, fields_fault};
+ghost use Rattle.np_records.specs.Faults.{Reads};
+ghost use Rattle.net_csv.specs.Fields.{is_period, amount_fault, upper_fault, upper_of, gain_fault, period_fault, period_of, new_fault, used_fault, place_in, fields_fault};
 
 use crate::refused::Code;
 use np_frac::{Frac, read_amount, read_number};

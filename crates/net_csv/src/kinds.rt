@@ -2,7 +2,7 @@
 
 ghost use Rattle.std.specs.Prelude.{◌≡◌, ◌≤◌, ◌&&◌, IfOk, length, codes};
 ghost use Rattle.csv.specs.Records.{fields_of};
-ghost use Rattle.net_csv.specs.Fields.{Reads};
+ghost use Rattle.np_records.specs.Faults.{Reads};
 ghost use Rattle.net_csv.specs.Network.{is_kind, is_flow, kind_in, bounds_place};
 ghost use Rattle.net_csv.specs.Faults.{kind_fault, ends_fault};
 

@@ -10,7 +10,7 @@ ghost use Rattle.np_model.specs.Valid.{IsSound, has_amounts, is_amount_or_infini
 ghost use Rattle.net_csv.specs.declared.refused.Tail.{Tail as TheTail};
 ghost use Rattle.net_csv.specs.Grammar.{IsSchemeOf, read_records};
 ghost use Rattle.net_csv.specs.AmountText.{amount_text};
-ghost use Rattle.net_csv.specs.Writing.{name_at, upper_text, node_row, supply_row, number_fields, flow_row, piece_row, flow_rows, head_rows, rows_of};
+ghost use Rattle.net_csv.specs.Writing.{upper_text, node_row, supply_row, number_fields, flow_row, piece_row, flow_rows, head_rows, rows_of};
 
 use crate::amounts::write_amount;
 use itoa::Buffer;
@@ -38,14 +38,6 @@ fn upper_bytes(alloc: Global, upper: &Upper) -> Result<Vec<u8>, Memory>
         Upper::Finite(value) => amount_bytes(alloc, *value),
         Upper::Infinite => Ok(Vec::from_slice(alloc, b"inf")?),
     }
-}
-
-// The name of the node with this number.
-fn node_name(nodes: &Names, number: usize) -> &[u8]
-    requires { number < length nodes.now }
-    ensures { result.now ≡ name_at nodes.now number }
-{
-    nodes.as_slice()[number].as_slice()
 }
 
 // Writes the two records at the head.
@@ -100,7 +92,7 @@ fn push_supply(
     let mut digits = Buffer::new();
     push_given(
         text,
-        node_name(nodes, place % count),
+        nodes.name_at(place % count),
         digits.format(place / count + 1).as_bytes(),
         amount.as_slice(),
     )
@@ -209,21 +201,21 @@ fn push_flow(alloc: Global, text: &mut Text, nodes: &Names, flow: &Flow) -> Resu
     match flow.kind {
         FlowKind::Link { from, to, gain } => {
             let gain = amount_bytes(alloc, gain)?;
-            let from = node_name(nodes, from as usize);
-            let to = node_name(nodes, to as usize);
+            let from = nodes.name_at(from as usize);
+            let to = nodes.name_at(to as usize);
             push_link(text, name, from, to, gain.as_slice(), &numbers)
         }
         FlowKind::Hold { node, gain } => {
             let gain = amount_bytes(alloc, gain)?;
-            let node = node_name(nodes, node as usize);
+            let node = nodes.name_at(node as usize);
             push_hold(text, name, node, gain.as_slice(), &numbers)
         }
         FlowKind::Drain { node } => {
-            let node = node_name(nodes, node as usize);
+            let node = nodes.name_at(node as usize);
             push_outer(text, b"drain".as_slice(), name, node, &numbers)
         }
         FlowKind::Feed { node } => {
-            let node = node_name(nodes, node as usize);
+            let node = nodes.name_at(node as usize);
             push_outer(text, b"feed".as_slice(), name, node, &numbers)
         }
     }

@@ -3,3 +3,4 @@ pub mod ReadingFacts
 pub mod FieldFacts
 pub mod TextFacts
 pub mod NameFacts
+pub mod FaultFacts

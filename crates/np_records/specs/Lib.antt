@@ -1,3 +1,4 @@
 pub mod Records
 pub mod Texts
 pub mod Names
+pub mod Faults

@@ -1,7 +1,7 @@
 use Rattle.std.proofs.Common.{rules, ◌≡◌, ◌∷◌}
 use Rattle.std.proofs.Common.{Some, None}
 use Rattle.csv.specs.Records.{fields_of}
-use Rattle.net_csv.specs.Fields.{unless}
+use Rattle.np_records.specs.Faults.{unless}
 use Rattle.net_csv.specs.Grammar.{is_header, periods_fault}
 use Rattle.net_csv.specs.declared.refused.Code.TheVariants as code
 use Rattle.net_csv.proofs.HeadFacts.{header-refused, periods-refused}
