@@ -17,7 +17,7 @@ use Rattle.np_model.specs.Schemes.{ends_in, is_hold, stage_in, stage_of, staged}
 use Rattle.np_model.specs.Valid.{JoinsNodes}
 use Rattle.np_model.proofs.Staged.{staged_each}
 use Rattle.cert_checker.specs.Arcs.{stage_for, as_stage, stages_of}
-use Rattle.cert_checker.specs.Plain.{AreNodes}
+use Rattle.cert_checker.specs.Nodes.{AreNodes}
 use Rattle.cert_checker.specs.declared.staged.StagedArc.{StagedArc}
 use Rattle.cert_checker.proofs.First.{one_more}
 use Rattle.cert_checker.proofs.Pairs.{AreThere, stage_is, length-stages}

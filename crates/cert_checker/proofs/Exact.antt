@@ -16,7 +16,7 @@ use Rattle.np_model.specs.declared.scheme.Band.{Band}
 use Rattle.np_model.specs.Network.{ReducedByEnds, coefficient, balance, plan_cost, at, bound_of, least_worth, reduced}
 use Rattle.np_model.specs.Stages.{Stage, Segment, end_after, segments_beyond, last_end, last_slope, lesser, amount_in, cost_at, stages_cost, stages_gap, hull}
 use Rattle.cert_checker.specs.Walk.{◌▷◌, balance_step, balance_of, band_end, end_of, price_of, add_segments, add_cost, cost_of, add_supply, add_worth, add_least, gap_of, add_ray_cost, ray_cost_of}
-use Rattle.cert_checker.specs.Plain.{AreNodes}
+use Rattle.cert_checker.specs.Nodes.{AreNodes}
 
 -- what was found in two steps
 pub found_by : {A B : Type 0} (r : Result A Past) (f : A → Result B Past) (y : B) → r ▷ f ≡ Ok y → (x : A) × (r ≡ Ok x) × (f x ≡ Ok y)

@@ -4,7 +4,6 @@ pub mod Exact
 pub mod First
 pub mod Made
 pub mod Pairs
-pub mod PlainStages
 pub mod Segments
 pub mod Theorem
 pub mod Whole

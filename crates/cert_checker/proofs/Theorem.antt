@@ -16,7 +16,7 @@ use Rattle.np_model.specs.declared.plan.CheckRow.TheVariants.{C1, C2, C3, C4, C5
 use Rattle.np_model.specs.Network.{ReducedByEnds, IsAtMost, IsWithin, IsFinite, at, balance, reduced}
 use Rattle.np_model.specs.Stages.{Stage, Segment, segments, last_end, hull, stages_cost, stages_gap, StagesFeasible, StagesShow, StagesImpossible, StagesRay, IsUnder, IsKink}
 use Rattle.cert_checker.specs.Walk.{tested, refused_if, or_then, first_refusal, balance_of, node_clause, balance_clauses, bound_clause, end_of, is_finite, is_above, is_under, price_of, left_test, right_test, reduced_clause, cost_of, cost_clause, reject_node, upper_clause, end_clause, gap_of, gap_clause, ray_clause, ray_balance_clauses, ray_cost_of, ray_cost_clause, feasible_refusal, shown_refusal, infeasible_refusal, falling_refusal}
-use Rattle.cert_checker.specs.Plain.{AreNodes}
+use Rattle.cert_checker.specs.Nodes.{AreNodes}
 use Rattle.cert_checker.specs.Sums.{HasEnds}
 use Rattle.cert_checker.specs.declared.answer.Clause.{Clause}
 use Rattle.cert_checker.specs.declared.answer.Clause.TheVariants.{Balance, RayBalance}

@@ -14,7 +14,7 @@ use Rattle.np_model.specs.Stages.{Stage}
 use Rattle.np_model.specs.Schemes.{staged, IsFeasiblePlan, PricesProve, PricesExclude, RaysProve}
 use Rattle.np_model.specs.Fits.{FitsAs, PlanFits, OptimalFits, InfeasibleFits, UnboundedFits}
 use Rattle.cert_checker.specs.Walk.{walk, walk_as, amount_of, or_then, feasible_refusal, shown_refusal, optimal_refusal, infeasible_refusal, falling_refusal, unbounded_refusal, accepted_unless, goes_on_unless, UnlessMemory}
-use Rattle.cert_checker.specs.Plain.{AreNodes}
+use Rattle.cert_checker.specs.Nodes.{AreNodes}
 use Rattle.cert_checker.specs.Sums.{HasEnds}
 use Rattle.cert_checker.specs.Proves.{ProvesOptimal, ProvesInfeasible, ProvesUnbounded}
 use Rattle.cert_checker.specs.Arcs.{stages_of}

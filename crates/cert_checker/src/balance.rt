@@ -9,7 +9,7 @@ ghost use Rattle.np_frac.specs.declared.frac.Past.{Past as ThePast};
 ghost use Rattle.np_frac.specs.Ratio.{Ratio, zero_ratio};
 ghost use Rattle.cert_checker.specs.Walk.{◌▷◌, balance_step, node_clause, first_refusal, goes_on_unless, UnlessMemory};
 ghost use Rattle.cert_checker.specs.Sums.{sum_clause, arcs_balance};
-ghost use Rattle.cert_checker.specs.Plain.{AreNodes};
+ghost use Rattle.cert_checker.specs.Nodes.{AreNodes};
 ghost use Rattle.cert_checker.specs.Arcs.{stages_of};
 
 use crate::answer::{CheckRefusal, Clause};

@@ -6,7 +6,7 @@ ghost use Rattle.np_frac.specs.Ratio.{zero_ratio};
 ghost use Rattle.np_frac.specs.Exact.{plus_of, times_of};
 ghost use Rattle.np_model.specs.Network.{bound_of as bound};
 ghost use Rattle.cert_checker.specs.Walk.{◌▷◌, upper_clause, end_clause, add_supply, add_worth, add_least, gap_of, gap_clause, first_refusal, goes_on_unless};
-ghost use Rattle.cert_checker.specs.Plain.{AreNodes};
+ghost use Rattle.cert_checker.specs.Nodes.{AreNodes};
 ghost use Rattle.cert_checker.specs.Arcs.{stage_with, stages_of};
 
 use crate::answer::{CheckRefusal, Clause};

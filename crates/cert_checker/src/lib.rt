@@ -18,4 +18,4 @@ mod valid;
 mod walk;
 
 pub use answer::{CheckRefusal, Checked, Clause};
-pub use walk::{check, one_arc_each};
+pub use walk::check;

@@ -6,7 +6,7 @@ ghost use Rattle.np_model.specs.Stages.{segments, segments_beyond};
 ghost use Rattle.np_model.specs.declared.scheme.Flow.{Flow as TheFlow};
 ghost use Rattle.cert_checker.specs.Walk.{price_of, reduced_clause, first_refusal, goes_on_unless};
 ghost use Rattle.cert_checker.specs.Sums.{HasEnds, as_segment, is_beside as beside, has_wrong_sign as wrong_sign, side_test};
-ghost use Rattle.cert_checker.specs.Plain.{AreNodes};
+ghost use Rattle.cert_checker.specs.Nodes.{AreNodes};
 ghost use Rattle.cert_checker.specs.Arcs.{stage_with, stages_of};
 
 use crate::answer::{CheckRefusal, Clause};

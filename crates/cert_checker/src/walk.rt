@@ -4,14 +4,12 @@ ghost use Rattle.std.specs.Prelude.{◌≡◌, ◌<◌, ◌^◌, length, map, If
 ghost use Rattle.std.specs.List.{All};
 ghost use Rattle.np_frac.specs.Ratio.{zero_ratio};
 ghost use Rattle.np_model.specs.declared.plan.Verdict.TheVariants as verdict;
-ghost use Rattle.np_model.specs.declared.scheme.Scheme.{Scheme as TheScheme};
 ghost use Rattle.np_model.specs.Fits.{PlanFits};
-ghost use Rattle.np_model.specs.Schemes.{staged};
 ghost use Rattle.cert_checker.specs.Walk.{walk, amount_of, feasible_refusal, shown_refusal, infeasible_refusal, falling_refusal, goes_on_unless, UnlessMemory};
 ghost use Rattle.cert_checker.specs.declared.answer.Checked.TheVariants as checked;
 ghost use Rattle.cert_checker.specs.Arcs.{stages_of};
 ghost use Rattle.cert_checker.specs.Sums.{HasEnds};
-ghost use Rattle.cert_checker.specs.Plain.{AreNodes, IsPlain};
+ghost use Rattle.cert_checker.specs.Nodes.{AreNodes};
 ghost use Rattle.cert_checker.specs.Proves.{Proves};
 
 use crate::answer::{CheckRefusal, Checked, Clause};
@@ -62,11 +60,6 @@ fn uncertified() -> Result<Checked, CheckRefusal>
     };
     Err(refusal)
 }
-
-/// A scheme with one period and no hold has a staged arc for each of its flows.
-pub fn one_arc_each()
-    ensures { (scheme : TheScheme) → IsPlain scheme → length (staged scheme) ≡ length scheme.flows }
-{}
 
 // The walk over an optimal plan.
 fn check_optimal(alloc: Global, scheme: &Scheme, plan: &Plan) -> Result<Checked, CheckRefusal>

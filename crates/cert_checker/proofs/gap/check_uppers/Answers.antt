@@ -1,7 +1,7 @@
 use Rattle.std.proofs.Common.{arith, length}
 use Rattle.std.proofs.lemmas.Result.{err_from_is_err_and}
 use Rattle.cert_checker.specs.Walk.{upper_clause}
-use Rattle.cert_checker.specs.Plain.{AreNodes}
+use Rattle.cert_checker.specs.Nodes.{AreNodes}
 use Rattle.cert_checker.proofs.Pairs.{Here, arc_here, arcs_go_on, arcs_stop, arcs_end}
 use Rattle.cert_checker.proofs.gap.check_uppers.Goals as goal
 

@@ -3,7 +3,7 @@ use Rattle.std.proofs.lemmas.Result.{err_from_is_err_and}
 use Rattle.std.specs.List.{enumerate_from}
 use Rattle.np_frac.specs.Ratio.{zero_ratio}
 use Rattle.cert_checker.specs.Walk.{add_supply, add_least}
-use Rattle.cert_checker.specs.Plain.{AreNodes}
+use Rattle.cert_checker.specs.Nodes.{AreNodes}
 use Rattle.cert_checker.specs.Arcs.{stage_with, stages_of}
 use Rattle.cert_checker.proofs.Pairs.{Here, arc_here, length-stages, stage_at, run, runs_on, run_stops, run_ends}
 use Rattle.cert_checker.proofs.gap.total_gap.Goals as goal

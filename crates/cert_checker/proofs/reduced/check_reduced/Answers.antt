@@ -2,7 +2,7 @@ use Rattle.std.proofs.Common.{arith, length}
 use Rattle.std.proofs.lemmas.Result.{err_from_is_err_and}
 use Rattle.cert_checker.specs.Walk.{reduced_clause}
 use Rattle.cert_checker.specs.Sums.{HasEnds}
-use Rattle.cert_checker.specs.Plain.{AreNodes}
+use Rattle.cert_checker.specs.Nodes.{AreNodes}
 use Rattle.cert_checker.proofs.Pairs.{Here, arc_here, stage_here, pairs_go_on, pairs_stop, pairs_end}
 use Rattle.cert_checker.proofs.reduced.check_reduced.Goals as goal
 
