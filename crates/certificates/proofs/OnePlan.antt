@@ -1,0 +1,41 @@
+-- Records stand for at most one plan.
+use Rattle.std.specs.Prelude.{◌≡◌, ℕ, Some, List}
+use Rattle.std.proofs.Common.{refl, sym, ap, ◌∙◌}
+use Rattle.np_model.specs.declared.scheme.Scheme.{Scheme}
+use Rattle.np_model.specs.declared.plan.Plan.{Plan}
+use Rattle.np_model.specs.declared.plan.Verdict.{Verdict}
+use Rattle.np_model.specs.declared.plan.Overflow.{Overflow}
+use Rattle.np_model.specs.declared.plan.Entry.{Entry}
+use Rattle.np_frac.specs.Ratio.{Ratio}
+use Rattle.std.specs.Prelude.{Option}
+use Rattle.certificates.specs.Claims.{Claims, claims_of, outline_of}
+use Rattle.certificates.specs.Grammar.{IsMadeOf, IsPlanOf, body_of, amount_of, flows_of, prices_of, ray_of, arc_of, passed_of}
+
+-- the plan of a verdict with these claims
+abbrev plan_with : Scheme → Claims → Verdict → Plan
+plan_with scheme t v = record {
+  verdict = v;
+  amount = amount_of v t;
+  flows = flows_of v scheme t;
+  prices = prices_of v t;
+  ray = ray_of v scheme t;
+  arc = arc_of v t;
+  overflow = passed_of v t;
+  log = record { turned = t.turned; entries = t.entries };
+}
+
+-- a plan is its parts
+plan-is : (p : Plan) (amount : Option Ratio) (flows prices ray : List Ratio) (arc : Option ℕ) (passed : Option Overflow) (turned : Option ℕ) (entries : List Entry)
+    → p.amount ≡ amount → p.flows ≡ flows → p.prices ≡ prices → p.ray ≡ ray → p.arc ≡ arc → p.overflow ≡ passed → p.log.turned ≡ turned → p.log.entries ≡ entries
+    → p ≡ record { verdict = p.verdict; amount = amount; flows = flows; prices = prices; ray = ray; arc = arc; overflow = passed; log = record { turned = turned; entries = entries } }
+plan-is p amount flows prices ray arc passed turned entries a f x r b o t e = rw (sym a, sym f, sym x, sym r, sym b, sym o, sym t, sym e) refl
+
+made-is : (scheme : Scheme) (t : Claims) (p : Plan) → IsMadeOf scheme t p → p ≡ plan_with scheme t p.verdict
+made-is scheme t p m = plan-is p _ _ _ _ _ _ _ _ m.amount m.flows m.prices m.ray m.arc m.overflow m.turned m.entries
+
+pub one-plan : (scheme : Scheme) (rows : List (List (List ℕ))) (first second : Plan) → IsPlanOf scheme rows first → IsPlanOf scheme rows second → first ≡ second
+one-plan scheme rows first second a b =
+    let t = claims_of (outline_of scheme) (body_of rows) in
+    let both : Some first.verdict ≡ Some second.verdict = sym a.verdict ∙ b.verdict in
+    let same : first.verdict ≡ second.verdict = cc both in
+    made-is scheme t first a.made ∙ ap (plan_with scheme t) same ∙ sym (made-is scheme t second b.made)

@@ -1,0 +1,138 @@
+-- The plan texts, over the list of their records: the first fault, or the plan.
+use Rattle.std.specs.Prelude.{◌≡◌, ℕ, ◌+◌, ◌-◌, ◌==◌, ◌&&◌, nat_lt, not, Bool, Option, Some, None, is_some, option_map, unwrap_or, List, [], length, map, take, drop, codes, slice_get, if◌then◌else◌}
+use Rattle.std.specs.List.{range_with_len, list_any}
+use Rattle.std.specs.Option.{option_and_then}
+use Rattle.std.specs.Str.{bytes_eq}
+use Rattle.np_frac.specs.Ratio.{Ratio, zero_ratio}
+use Rattle.np_records.specs.Records.{field_of}
+use Rattle.np_model.specs.declared.scheme.Scheme.{Scheme}
+use Rattle.np_model.specs.declared.plan.Verdict.{Verdict}
+use Rattle.np_model.specs.declared.plan.Verdict.TheVariants as verdict
+use Rattle.np_model.specs.declared.plan.Overflow.{Overflow}
+use Rattle.np_model.specs.declared.plan.Plan.{Plan}
+use Rattle.np_model.specs.Schemes.{staged}
+use Rattle.net_csv.specs.Network.{is_kind}
+use Rattle.certificates.specs.declared.refused.Code.{Code}
+use Rattle.certificates.specs.declared.refused.Code.TheVariants as code
+use Rattle.certificates.specs.Words.{verdict_of}
+use Rattle.np_records.specs.Faults.{unless}
+use Rattle.certificates.specs.Claims.{Outline, Claims, outline_of, found, place_with, claims_of}
+use Rattle.certificates.specs.Faults.{record_fault, end_fault}
+
+-- ---- the records at the head
+
+abbrev pub is_header : List (List ℕ) → Bool
+is_header r = (length r == 2) && bytes_eq (field_of r 0) (codes "netplan-plan") && bytes_eq (field_of r 1) (codes "1")
+
+-- the verdict that a record gives
+abbrev pub verdict_in : List (List ℕ) → Option Verdict
+verdict_in r = if (length r == 2) && is_kind r (codes "verdict") then verdict_of (field_of r 1) else None
+
+-- ---- the body
+
+abbrev pub is_end : List (List ℕ) → Bool
+is_end r = is_kind r (codes "end")
+
+-- the record at a place, from 0; no fields where there is none
+abbrev pub row_at : List (List (List ℕ)) → ℕ → List (List ℕ)
+row_at rows place = unwrap_or (slice_get rows place) []
+
+-- the records between the head and the one at a place
+abbrev pub body_before : List (List (List ℕ)) → ℕ → List (List (List ℕ))
+body_before rows place = drop 2 (take place rows)
+
+-- a record of the body, where these stand before it
+abbrev pub body_fault : Outline → Option Verdict → List (List (List ℕ)) → List (List ℕ) → Option Code
+body_fault o verdict before r =
+    if list_any is_end before then Some code.AfterEnd
+    else if is_end r then option_and_then (λ v. end_fault v (claims_of o before) r) verdict
+    else record_fault o (claims_of o before) r
+
+-- what is wrong at a place, from 0, where all records before it are right; behind the last record `end` is missing where it was not read
+abbrev pub fault_at : Outline → List (List (List ℕ)) → ℕ → Option Code
+fault_at o rows place =
+    let r = row_at rows place in
+    if not (nat_lt place (length rows)) then unless (list_any is_end (body_before rows place)) code.NoEnd
+    else if place == 0 then unless (is_header r) code.Header
+    else if place == 1 then unless (is_some (verdict_in r)) code.Header
+    else body_fault o (verdict_in (row_at rows 1)) (body_before rows place) r
+
+-- the number of the record with the first fault, where so many stand before the plan text, and the fault; None where there is none
+abbrev pub plan_fault : ℕ → Outline → List (List (List ℕ)) → Option (ℕ × Code)
+plan_fault skip o rows = found (λ place. option_map (λ c. (skip + place + 1, c)) (fault_at o rows place)) (range_with_len 0 (length rows + 1))
+
+-- ---- the plan
+
+-- the records between the head and `end`, which is the last one
+abbrev pub body_of : List (List (List ℕ)) → List (List (List ℕ))
+body_of rows = body_before rows (length rows - 1)
+
+-- the amount for a place, 0 where none is given
+abbrev pub amount_at : List (Option Ratio) → ℕ → Ratio
+amount_at given place = unwrap_or (unwrap_or (slice_get given place) None) zero_ratio
+
+-- the amounts of the staged arcs, and of the nodes in each period
+abbrev pub staged_amounts : Scheme → List (Option Ratio) → List Ratio
+staged_amounts scheme given = map (λ arc. amount_at given (place_with (length scheme.flows) arc.period arc.flow)) (staged scheme)
+
+abbrev pub node_amounts : List (Option Ratio) → List Ratio
+node_amounts given = map (λ amount. unwrap_or amount zero_ratio) given
+
+-- the parts that a verdict uses
+abbrev pub amount_of : Verdict → Claims → Option Ratio
+amount_of verdict.Optimal claims = claims.cost
+amount_of verdict.Infeasible claims = claims.gap
+amount_of verdict.Unbounded claims = None
+amount_of verdict.Budget claims = None
+amount_of verdict.Overflow claims = None
+
+abbrev pub flows_of : Verdict → Scheme → Claims → List Ratio
+flows_of verdict.Optimal scheme claims = staged_amounts scheme claims.flows
+flows_of verdict.Infeasible scheme claims = []
+flows_of verdict.Unbounded scheme claims = staged_amounts scheme claims.flows
+flows_of verdict.Budget scheme claims = []
+flows_of verdict.Overflow scheme claims = []
+
+abbrev pub prices_of : Verdict → Claims → List Ratio
+prices_of verdict.Optimal claims = node_amounts claims.prices
+prices_of verdict.Infeasible claims = node_amounts claims.prices
+prices_of verdict.Unbounded claims = []
+prices_of verdict.Budget claims = []
+prices_of verdict.Overflow claims = []
+
+abbrev pub ray_of : Verdict → Scheme → Claims → List Ratio
+ray_of verdict.Optimal scheme claims = []
+ray_of verdict.Infeasible scheme claims = []
+ray_of verdict.Unbounded scheme claims = staged_amounts scheme claims.ray
+ray_of verdict.Budget scheme claims = []
+ray_of verdict.Overflow scheme claims = []
+
+abbrev pub arc_of : Verdict → Claims → Option ℕ
+arc_of verdict.Optimal claims = None
+arc_of verdict.Infeasible claims = None
+arc_of verdict.Unbounded claims = None
+arc_of verdict.Budget claims = claims.arc
+arc_of verdict.Overflow claims = None
+
+abbrev pub passed_of : Verdict → Claims → Option Overflow
+passed_of verdict.Optimal claims = None
+passed_of verdict.Infeasible claims = None
+passed_of verdict.Unbounded claims = None
+passed_of verdict.Budget claims = None
+passed_of verdict.Overflow claims = claims.passed
+
+-- the plan with these claims: of the other parts it has nothing
+pub record IsMadeOf (scheme : Scheme) (claims : Claims) (plan : Plan) : Type 0 where
+  pub amount : plan.amount ≡ amount_of plan.verdict claims
+  pub flows : plan.flows ≡ flows_of plan.verdict scheme claims
+  pub prices : plan.prices ≡ prices_of plan.verdict claims
+  pub ray : plan.ray ≡ ray_of plan.verdict scheme claims
+  pub arc : plan.arc ≡ arc_of plan.verdict claims
+  pub overflow : plan.overflow ≡ passed_of plan.verdict claims
+  pub turned : plan.log.turned ≡ claims.turned
+  pub entries : plan.log.entries ≡ claims.entries
+
+-- the plan of a text without a fault
+pub record IsPlanOf (scheme : Scheme) (rows : List (List (List ℕ))) (plan : Plan) : Type 0 where
+  pub verdict : verdict_in (row_at rows 1) ≡ Some plan.verdict
+  pub made : IsMadeOf scheme (claims_of (outline_of scheme) (body_of rows)) plan

@@ -1,0 +1,167 @@
+-- The records of the text of a plan, and what of the plan they tell.
+use Rattle.std.specs.Prelude.{ℕ, ◌+◌, ◌/◌, ◌%◌, Bool, None, option_map, List, [], ◌∷◌, ◌++◌, length, map, codes, decimal, IfSome, if◌then◌else◌}
+use Rattle.std.specs.List.{All, zip, enumerate_from}
+use Rattle.std.specs.Option.{option_to_list}
+use Rattle.np_frac.specs.Ratio.{Ratio}
+use Rattle.np_frac.specs.Lowest.{Fits}
+use Rattle.np_frac.specs.Text.{printed}
+use Rattle.np_frac.specs.declared.frac.Op.{Op}
+use Rattle.np_frac.specs.declared.frac.Op.TheVariants as op
+use Rattle.np_model.specs.declared.scheme.Scheme.{Scheme}
+use Rattle.np_model.specs.declared.plan.Verdict.{Verdict}
+use Rattle.np_model.specs.declared.plan.Verdict.TheVariants as verdict
+use Rattle.np_model.specs.declared.plan.Mark.{Mark}
+use Rattle.np_model.specs.declared.plan.Mark.TheVariants as mark
+use Rattle.np_model.specs.declared.plan.Row.{Row}
+use Rattle.np_model.specs.declared.plan.Row.TheVariants as row
+use Rattle.np_model.specs.declared.plan.CheckRow.{CheckRow}
+use Rattle.np_model.specs.declared.plan.CheckRow.TheVariants as check
+use Rattle.np_model.specs.declared.plan.Place.{Place}
+use Rattle.np_model.specs.declared.plan.Place.TheVariants as place
+use Rattle.np_model.specs.declared.plan.Overflow.{Overflow}
+use Rattle.np_model.specs.declared.plan.Entry.{Entry}
+use Rattle.np_model.specs.declared.plan.Log.{Log}
+use Rattle.np_model.specs.declared.plan.Plan.{Plan}
+use Rattle.np_model.specs.Stages.{Stage}
+use Rattle.np_model.specs.Schemes.{staged}
+use Rattle.net_csv.specs.Writing.{name_at}
+use Rattle.certificates.specs.Claims.{flow_names}
+
+-- ---- words
+
+unfoldable pub verdict_word : Verdict → List ℕ
+verdict_word verdict.Optimal = codes "optimal"
+verdict_word verdict.Infeasible = codes "infeasible"
+verdict_word verdict.Unbounded = codes "unbounded"
+verdict_word verdict.Budget = codes "budget"
+verdict_word verdict.Overflow = codes "overflow"
+
+-- where an arc comes to rest; in the basis none does
+unfoldable pub mark_word : Mark → List ℕ
+mark_word mark.Lower = codes "lower"
+mark_word mark.Upper = codes "upper"
+mark_word mark.Basic = codes "basic"
+
+unfoldable pub op_word : Op → List ℕ
+op_word op.Plus = codes "plus"
+op_word op.Minus = codes "minus"
+op_word op.Times = codes "times"
+op_word op.Over = codes "over"
+
+unfoldable pub row_word : Row → List ℕ
+row_word row.A1 = codes "A1"
+row_word row.A2 = codes "A2"
+row_word row.A3 = codes "A3"
+row_word row.A4 = codes "A4"
+row_word row.A5 = codes "A5"
+row_word row.A6 = codes "A6"
+row_word row.A7 = codes "A7"
+row_word row.A8 = codes "A8"
+
+unfoldable pub check_row_word : CheckRow → List ℕ
+check_row_word check.C0 = codes "C0"
+check_row_word check.C1 = codes "C1"
+check_row_word check.C2 = codes "C2"
+check_row_word check.C3 = codes "C3"
+check_row_word check.C4 = codes "C4"
+check_row_word check.C5 = codes "C5"
+check_row_word check.C6 = codes "C6"
+
+abbrev pub place_word : Place → List ℕ
+place_word (place.Node v) = decimal v
+place_word (place.Arc a) = decimal a
+place_word place.Turn = codes "turn"
+place_word (place.Check row) = check_row_word row
+
+-- ---- records
+
+abbrev pub head_rows : Verdict → List (List (List ℕ))
+head_rows verdict = (codes "netplan-plan" ∷ codes "1" ∷ []) ∷ (codes "verdict" ∷ verdict_word verdict ∷ []) ∷ []
+
+-- a cost or a gap
+abbrev pub amount_row : List ℕ → Ratio → List (List ℕ)
+amount_row word amount = word ∷ printed amount ∷ []
+
+-- a number: the arc of a budget, or the pivots before the second stage
+abbrev pub number_row : List ℕ → ℕ → List (List ℕ)
+number_row word number = word ∷ decimal number ∷ []
+
+abbrev pub past_row : Overflow → List (List ℕ)
+past_row passed =
+    codes "past" ∷ row_word passed.row ∷ place_word passed.place ∷ op_word passed.past.op ∷ printed passed.past.left ∷ printed passed.past.right ∷ []
+
+-- the amount of a staged arc
+abbrev pub staged_row : List ℕ → List (List ℕ) → Stage × Ratio → List (List ℕ)
+staged_row word flows (arc, amount) = word ∷ name_at flows arc.flow ∷ decimal arc.period ∷ printed amount ∷ []
+
+-- the amounts of all staged arcs, in order
+abbrev pub staged_rows : List ℕ → Scheme → List Ratio → List (List (List ℕ))
+staged_rows word scheme amounts = map (staged_row word (flow_names scheme.flows)) (zip (staged scheme) amounts)
+
+-- the price at a place: with n nodes, place (P - 1) * n + i is that of node i in period P
+abbrev pub price_row : List (List ℕ) → ℕ × Ratio → List (List ℕ)
+price_row nodes (place, price) = codes "price" ∷ name_at nodes (place % length nodes) ∷ decimal (place / length nodes + 1) ∷ printed price ∷ []
+
+abbrev pub price_rows : Scheme → List Ratio → List (List (List ℕ))
+price_rows scheme prices = map (price_row scheme.nodes) (enumerate_from 0 prices)
+
+abbrev pub pivot_row : ℕ × Entry → List (List ℕ)
+pivot_row (number, entry) =
+    codes "pivot" ∷ decimal number ∷ decimal entry.enter ∷ decimal entry.leave ∷ mark_word entry.leave_at ∷ []
+
+-- the pivots are numbered from 1
+abbrev pub log_rows : Log → List (List (List ℕ))
+log_rows log =
+    option_to_list (option_map (number_row (codes "turned")) log.turned)
+    ++ map pivot_row (enumerate_from 1 log.entries)
+
+-- ---- the parts that a verdict prints, in this order
+
+-- its cost, its gap, the arc or the operation that passed
+abbrev pub claim_rows : Verdict → Plan → List (List (List ℕ))
+claim_rows verdict.Optimal plan = option_to_list (option_map (amount_row (codes "cost")) plan.amount)
+claim_rows verdict.Infeasible plan = option_to_list (option_map (amount_row (codes "gap")) plan.amount)
+claim_rows verdict.Unbounded plan = []
+claim_rows verdict.Budget plan = option_to_list (option_map (number_row (codes "arc")) plan.arc)
+claim_rows verdict.Overflow plan = option_to_list (option_map past_row plan.overflow)
+
+-- its flows, its prices and its ray
+abbrev pub shown_rows : Verdict → Scheme → Plan → List (List (List ℕ))
+shown_rows verdict.Optimal scheme plan = staged_rows (codes "flow") scheme plan.flows ++ price_rows scheme plan.prices
+shown_rows verdict.Infeasible scheme plan = price_rows scheme plan.prices
+shown_rows verdict.Unbounded scheme plan = staged_rows (codes "flow") scheme plan.flows ++ staged_rows (codes "ray") scheme plan.ray
+shown_rows verdict.Budget scheme plan = []
+shown_rows verdict.Overflow scheme plan = []
+
+-- the records between the head and `end`; the log stands there where it is asked for
+abbrev pub inner_rows : Scheme → Plan → Bool → List (List (List ℕ))
+inner_rows scheme plan log =
+    claim_rows plan.verdict plan ++ shown_rows plan.verdict scheme plan ++ (if log then log_rows plan.log else [])
+
+-- all records of the text
+abbrev pub plan_rows : Scheme → Plan → Bool → List (List (List ℕ))
+plan_rows scheme plan log = head_rows plan.verdict ++ inner_rows scheme plan log ++ (codes "end" ∷ []) ∷ []
+
+-- ---- what the text tells of a plan
+
+-- the parts that its verdict prints
+abbrev pub printed_parts : Verdict → Plan → Plan
+printed_parts verdict.Optimal plan = record plan { ray = []; arc = None; overflow = None }
+printed_parts verdict.Infeasible plan = record plan { flows = []; ray = []; arc = None; overflow = None }
+printed_parts verdict.Unbounded plan = record plan { amount = None; prices = []; arc = None; overflow = None }
+printed_parts verdict.Budget plan = record plan { amount = None; flows = []; prices = []; ray = []; overflow = None }
+printed_parts verdict.Overflow plan = record plan { amount = None; flows = []; prices = []; ray = []; arc = None }
+
+-- these, and the log where it was asked for
+abbrev pub told : Plan → Bool → Plan
+told plan log =
+    if log then printed_parts plan.verdict plan
+    else record (printed_parts plan.verdict plan) { log = record { turned = None; entries = [] } }
+
+-- the amounts and operands of a plan fit fractions
+pub record HasFractions (plan : Plan) : Type 0 where
+  pub amount : IfSome plan.amount Fits
+  pub flows : All Fits plan.flows
+  pub prices : All Fits plan.prices
+  pub ray : All Fits plan.ray
+  pub operands : IfSome plan.overflow (λ passed. Fits passed.past.left × Fits passed.past.right)

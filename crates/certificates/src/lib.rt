@@ -1,0 +1,19 @@
+//! Plan texts: the plan of one or its first fault, and the text of a plan.
+#![tactic(auto)]
+
+mod draft;
+mod fields;
+mod index;
+pub mod laws;
+mod reading;
+mod refused;
+mod words;
+mod writing;
+
+pub use reading::read_plan;
+pub use refused::{Code, Refused};
+pub use words::{check_row_word, op_word};
+pub use writing::plan_text;
+
+#[cfg(test)]
+mod tests;
