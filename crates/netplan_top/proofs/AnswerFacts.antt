@@ -1,13 +1,11 @@
 -- From what the parts answer to what is said of an input.
 use Rattle.std.specs.Prelude.{◌≡◌, ℕ, ◌⊎◌, Ok, Err, List}
-use Rattle.std.proofs.Common.{sym, ap, subst, ◌∙◌, inl, inr, arith, refl}
-use Rattle.np_frac.specs.Ratio.{Ratio}
+use Rattle.std.proofs.Common.{sym, inl, inr, arith, refl}
 use Rattle.np_model.specs.declared.plan.Plan.{Plan}
 use Rattle.np_model.specs.declared.scheme.Scheme.{Scheme}
-use Rattle.cert_checker.specs.Walk.{walk, amount_of, UnlessMemory}
+use Rattle.cert_checker.specs.Walk.{walk, UnlessMemory}
 use Rattle.cert_checker.specs.Proves.{Proves}
 use Rattle.cert_checker.specs.declared.answer.Checked.{Checked}
-use Rattle.cert_checker.specs.declared.answer.Checked.TheVariants as checked
 use Rattle.cert_checker.specs.declared.answer.CheckRefusal.{CheckRefusal}
 use Rattle.cert_checker.specs.declared.answer.CheckRefusal.TheVariants as refusal
 use Rattle.np_records.specs.Records.{records_of}
@@ -16,24 +14,18 @@ use Rattle.net_csv.specs.declared.refused.Refused.{Refused}
 use Rattle.net_csv.specs.declared.refused.Refused.TheVariants as refused
 use Rattle.net_csv.specs.declared.refused.Tail.TheVariants as tail
 use Rattle.netplan_top.specs.Reads.{Reads, IsStopOf}
-use Rattle.netplan_top.specs.Stops.{stop_of}
+use Rattle.netplan_top.specs.Stops.{network_stop}
 use Rattle.netplan_top.specs.declared.stop.Stop.{Stop}
 use Rattle.netplan_top.specs.declared.stop.Stop.TheVariants as stop
 use Rattle.netplan_top.specs.Texts.{check_text, accepted_line}
-use Rattle.netplan_top.specs.Answers.{IsFaulty, IsLater, IsStopped, IsAnswer, IsExpandAnswer, IsJudged, IsRefused}
+use Rattle.netplan_top.specs.Answers.{IsFaulty, IsPlanFaulty, IsStopped, IsAnswer, IsExpandAnswer, IsJudged, IsRefused}
 use Rattle.netplan_top.specs.NetText.{net_text}
 
 -- ---- what the checker answers
 
-pub judged_accepted : (scheme : Scheme) (plan : Plan) (x : Checked) (cost : Ratio) (text : List ℕ) → Ok x ≡ walk scheme plan → x ≡ checked.Optimal (amount_of plan) → Proves scheme plan x → cost ≡ amount_of plan
-    → text ≡ check_text (accepted_line cost) → IsJudged scheme plan 0 text
-judged_accepted scheme plan x cost text walked is proved costs text_is = record {
-  accepts = λ _. record {
-    cost = cost;
-    walked = sym walked ∙ ap Ok (is ∙ ap checked.Optimal (sym costs));
-    proved = subst (λ y. Proves scheme plan y) (is ∙ ap checked.Optimal (sym costs)) proved;
-    text_is = text_is;
-  };
+pub judged_accepted : (scheme : Scheme) (plan : Plan) (x : Checked) (text : List ℕ) → Ok x ≡ walk scheme plan → Proves scheme plan x → text ≡ check_text (accepted_line x) → IsJudged scheme plan 0 text
+judged_accepted scheme plan x text walked proved text_is = record {
+  accepts = λ _. record { answer = x; walked = sym walked; proved = proved; text_is = text_is };
   passes = λ e. absurd (omega arith);
   rejects = λ e. absurd (omega arith);
   known = inl refl;
@@ -68,7 +60,7 @@ answer_judged input scheme plan status text reads judged = record {
   known = elim judged.known [ inl a ↦ inl a | inr b ↦ elim b [ inl a ↦ inr (inl a) | inr a ↦ inr (inr (inr a)) ] ];
 }
 
-answer_refused : (input : List ℕ) (status : ℕ) (text : List ℕ) → status ≡ 5 → IsFaulty tail.Plan input text ⊎ IsLater input text → IsAnswer input status text
+answer_refused : (input : List ℕ) (status : ℕ) (text : List ℕ) → status ≡ 5 → IsFaulty tail.Plan input text ⊎ IsPlanFaulty input text → IsAnswer input status text
 answer_refused input status text is why = record {
   accepts = λ e. absurd (omega arith);
   passes = λ e. absurd (omega arith);
@@ -79,8 +71,8 @@ answer_refused input status text is why = record {
 
 -- what is said where the input was not read
 pub answer_stopped : (input : List ℕ) (why : Stop) (status : ℕ) (text : List ℕ) → IsStopOf why input → IsStopped why status text → IsAnswer input status text
-answer_stopped input (stop.Fault place code) status text read told = let is = told.0 in answer_refused input status text is (inl (record { place = place; code = code; fault = read; text_is = told.1 }))
-answer_stopped input stop.Outside status text read told = let is = told.0 in answer_refused input status text is (inr (record { untaken = read; text_is = told.1 }))
+answer_stopped input (stop.Network place code) status text read told = let is = told.0 in answer_refused input status text is (inl (record { place = place; code = code; fault = read; text_is = told.1 }))
+answer_stopped input (stop.Plan place code) status text read told = let is = told.0 in answer_refused input status text is (inr (record { place = place; code = code; fault = read; text_is = told.1 }))
 answer_stopped input stop.Memory status text read told = absurd told
 
 -- ---- what `expand` answers
@@ -93,7 +85,7 @@ expand_made input scheme count status text read is made = record {
   known = inl is;
 }
 
-pub expand_stopped : (input : List ℕ) (why : Refused) (status : ℕ) (text : List ℕ) → ReadsScheme tail.Nothing (records_of input) (Err why) → IsStopped (stop_of why) status text
+pub expand_stopped : (input : List ℕ) (why : Refused) (status : ℕ) (text : List ℕ) → ReadsScheme tail.Nothing (records_of input) (Err why) → IsStopped (network_stop why) status text
     → IsExpandAnswer input status text
 expand_stopped input (refused.Fault place code) status text read told =
     let is = told.0 in

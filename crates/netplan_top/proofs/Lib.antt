@@ -2,10 +2,7 @@ pub mod WordFacts
 pub mod AnswerFacts
 pub mod RunFacts
 pub mod NetFacts
-pub mod ClaimsTables
-pub mod ClaimsText
-pub mod ClaimsDraft
-pub mod NameTables
 pub mod InputFacts
 pub mod OneReading
 pub mod OneAnswer
+pub mod WrittenInput

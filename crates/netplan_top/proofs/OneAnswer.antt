@@ -1,34 +1,37 @@
 -- What is said of an input is one status and one text.
-use Rattle.std.proofs.Common.{◌≡◌, ℕ, List, sym, subst, ap, ◌∙◌, inl, inr}
-use Rattle.std.specs.Prelude.{[], codes, Ok, Err, Result}
+use Rattle.std.proofs.Common.{◌≡◌, ℕ, List, sym, ap, ◌∙◌, inl, inr}
+use Rattle.std.specs.Prelude.{[], Ok, Err, Result, Option, Some, None}
 use Rattle.net_csv.specs.Words.{code_word}
 use Rattle.net_csv.specs.declared.refused.Code.{Code}
+use Rattle.certificates.specs.Claims.{outline_of}
+use Rattle.certificates.specs.Grammar.{plan_fault}
+use Rattle.certificates.specs.Words.{code_word as plan_code_word}
+use Rattle.certificates.specs.declared.refused.Code.{Code as PlanCode}
 use Rattle.np_model.specs.declared.scheme.Scheme.{Scheme}
 use Rattle.np_model.specs.declared.plan.Plan.{Plan}
 use Rattle.cert_checker.specs.Walk.{walk}
 use Rattle.cert_checker.specs.declared.answer.Checked.{Checked}
-use Rattle.cert_checker.specs.declared.answer.Checked.TheVariants as checked
 use Rattle.cert_checker.specs.declared.answer.CheckRefusal.{CheckRefusal}
 use Rattle.cert_checker.specs.declared.answer.CheckRefusal.TheVariants as refusal
 use Rattle.net_csv.specs.declared.refused.Tail.{Tail}
 use Rattle.net_csv.specs.declared.refused.Tail.TheVariants as tail
 use Rattle.netplan_top.specs.declared.words.Command.{Command}
 use Rattle.netplan_top.specs.declared.words.Command.TheVariants.{Check, Expand}
-use Rattle.netplan_top.specs.Reads.{Reads, IsFault, IsTaken, IsUntaken, IsNetwork}
+use Rattle.netplan_top.specs.Reads.{HasNetwork, Reads, IsFault, IsPlanFault, IsNetwork, rest_of}
 use Rattle.netplan_top.specs.Answers.{Accepts, Rejects, Passes, IsAnswer, IsExpandAnswer, AnswerOf}
 use Rattle.netplan_top.specs.NetText.{net_text}
 use Rattle.netplan_top.specs.Texts.{refused_text, check_text, accepted_line, rejected_line, past_line}
-use Rattle.netplan_top.proofs.OneReading.{OneScheme, scheme_is, plan_is, rest_is}
+use Rattle.netplan_top.proofs.OneReading.{OneScheme, OnePlan, scheme_is, plan_is, count_is}
 
 abbrev said : ℕ → List ℕ → ℕ × List ℕ
 said status text = (status, text)
 
 -- the status and the text that a walk gives
 told : Scheme → Result Checked CheckRefusal → ℕ × List ℕ
-told scheme (Ok (checked.Optimal cost)) = (0, check_text (accepted_line cost))
+told scheme (Ok answer) = (0, check_text (accepted_line answer))
 told scheme (Err (refusal.Reject clause name period)) = (10, check_text (rejected_line scheme clause name period))
 told scheme (Err (refusal.Past row past)) = (4, check_text (past_line row past))
-told scheme other = (9, [])
+told scheme (Err refusal.Memory) = (9, [])
 
 accepts_told : (s : Scheme) (p : Plan) (x : List ℕ) → Accepts s p x → said 0 x ≡ told s (walk s p)
 unfolding told
@@ -50,9 +53,11 @@ record IsFaultTold (behind : Tail) (input : List ℕ) (status : ℕ) (text : Lis
   pub fault : IsFault behind input place code
   pub answer : said status text ≡ said 5 (refused_text place (code_word code))
 
-record IsLaterTold (input : List ℕ) (status : ℕ) (text : List ℕ) : Type 0 where
-  pub untaken : IsUntaken input
-  pub answer : said status text ≡ said 5 (refused_text 0 (codes "Later"))
+record IsPlanFaultTold (input : List ℕ) (status : ℕ) (text : List ℕ) : Type 0 where
+  pub place : ℕ
+  pub code : PlanCode
+  pub fault : IsPlanFault input place code
+  pub answer : said status text ≡ said 5 (refused_text place (plan_code_word code))
 
 record IsTold (input : List ℕ) (status : ℕ) (text : List ℕ) : Type 0 where
   pub scheme : Scheme
@@ -62,7 +67,7 @@ record IsTold (input : List ℕ) (status : ℕ) (text : List ℕ) : Type 0 where
 
 data Cause (input : List ℕ) (status : ℕ) (text : List ℕ) : Type 0 where
   fault : IsFaultTold tail.Plan input status text → Cause input status text
-  later : IsLaterTold input status text → Cause input status text
+  faulty_plan : IsPlanFaultTold input status text → Cause input status text
   walked : IsTold input status text → Cause input status text
 
 cause_of : (input : List ℕ) (status : ℕ) (text : List ℕ) → IsAnswer input status text → Cause input status text
@@ -76,7 +81,7 @@ cause_of input status text a =
         | inr more ↦ elim more [
           | inl e ↦ elim (a.refuses e) [
             | inl h ↦ Cause.fault (record { place = h.place; code = h.code; fault = h.fault; answer = ap (λ n. said n text) e ∙ ap (said 5) h.text_is })
-            | inr h ↦ Cause.later (record { untaken = h.untaken; answer = ap (λ n. said n text) e ∙ ap (said 5) h.text_is })
+            | inr h ↦ Cause.faulty_plan (record { place = h.place; code = h.code; fault = h.fault; answer = ap (λ n. said n text) e ∙ ap (said 5) h.text_is })
           ]
           | inr e ↦ let h = a.rejects e in
               Cause.walked (record { scheme = h.scheme; plan = h.plan; reads = h.reads; answer = ap (λ n. said n text) e ∙ rejects_told _ _ _ h.says })
@@ -96,31 +101,53 @@ both_faults behind input s t x y a b = a.answer ∙ ap (said 5) (sym (ap fault_o
 no_fault : (x : Result ℕ (ℕ × Code)) (count place : ℕ) (code : Code) → x ≡ Ok count → x ≡ Err (place, code) → ⊥
 no_fault x count place code a b = cc
 
-taken_is : OneScheme → (input : List ℕ) (u : IsUntaken input) (s : Scheme) (p : Plan) → Reads input s p → ⊥
-taken_is law input u s p r =
-    let e : s ≡ u.scheme = law _ s u.scheme r.network.scheme_is u.network.scheme_is in
-    let f : r.rest ≡ u.rest = rest_is input s u.scheme r.rest u.rest r.network u.network in
-    u.outside (subst (λ (z : Scheme). IsTaken z u.rest) e (subst (λ (rows : List (List (List ℕ))). IsTaken s rows) f r.taken))
+-- what the grammar tells of the plan behind a network
+abbrev plan_fault_in : List ℕ → Scheme → ℕ → Option (ℕ × PlanCode)
+plan_fault_in input scheme count = plan_fault count (outline_of scheme) (rest_of input count)
 
-both_told : OneScheme → (input : List ℕ) (s t : ℕ) (x y : List ℕ) → IsTold input s x → IsTold input t y → said s x ≡ said t y
-both_told law input s t x y a b =
+same_fault_in : OneScheme → (input : List ℕ) (s t : Scheme) (k l : ℕ) → HasNetwork input s k → HasNetwork input t l → plan_fault_in input s k ≡ plan_fault_in input t l
+same_fault_in law input s t k l a b =
+    let e : s ≡ t = law _ s t a.scheme_is b.scheme_is in
+    let f : k ≡ l = count_is input s t k l a b in
+    λ i. plan_fault_in input (e i) (f i)
+
+refusal_of : Option (ℕ × PlanCode) → List ℕ
+refusal_of None = []
+refusal_of (Some (place, code)) = refused_text place (plan_code_word code)
+
+both_plan_faults : OneScheme → (input : List ℕ) (s t : ℕ) (x y : List ℕ) → IsPlanFaultTold input s x → IsPlanFaultTold input t y → said s x ≡ said t y
+unfolding refusal_of
+both_plan_faults law input s t x y a b =
+    let e = same_fault_in law input a.fault.scheme b.fault.scheme a.fault.count b.fault.count a.fault.network b.fault.network in
+    a.answer ∙ ap (said 5) (sym (ap refusal_of a.fault.fault) ∙ ap refusal_of e ∙ ap refusal_of b.fault.fault) ∙ sym b.answer
+
+none_some : (x y : Option (ℕ × PlanCode)) (z : ℕ × PlanCode) → x ≡ y → x ≡ None → y ≡ Some z → ⊥
+none_some x y z e a b = cc
+
+-- a plan that was read has no fault
+no_plan_fault : OneScheme → (input : List ℕ) (place : ℕ) (code : PlanCode) (s : Scheme) (p : Plan) → IsPlanFault input place code → Reads input s p → ⊥
+no_plan_fault law input place code s p h reads =
+    none_some _ _ (place, code) (same_fault_in law input s h.scheme reads.count h.count reads.network h.network) reads.whole h.fault
+
+both_told : OneScheme → OnePlan → (input : List ℕ) (s t : ℕ) (x y : List ℕ) → IsTold input s x → IsTold input t y → said s x ≡ said t y
+both_told law plans input s t x y a b =
     let e : a.scheme ≡ b.scheme = scheme_is law input a.scheme b.scheme a.plan b.plan a.reads b.reads in
-    let f : a.plan ≡ b.plan = plan_is law input a.scheme b.scheme a.plan b.plan a.reads b.reads in
+    let f : a.plan ≡ b.plan = plan_is law plans input a.scheme b.scheme a.plan b.plan a.reads b.reads in
     a.answer ∙ (λ i. told (e i) (walk (e i) (f i))) ∙ sym b.answer
 
-same_cause : OneScheme → (input : List ℕ) (s t : ℕ) (x y : List ℕ) → Cause input s x → Cause input t y → said s x ≡ said t y
-same_cause law input s t x y (Cause.fault a) (Cause.fault b) = both_faults tail.Plan input s t x y a b
-same_cause law input s t x y (Cause.fault a) (Cause.later b) = absurd (no_fault _ _ _ _ b.untaken.network.network a.fault)
-same_cause law input s t x y (Cause.fault a) (Cause.walked b) = absurd (no_fault _ _ _ _ b.reads.network.network a.fault)
-same_cause law input s t x y (Cause.later a) (Cause.fault b) = absurd (no_fault _ _ _ _ a.untaken.network.network b.fault)
-same_cause law input s t x y (Cause.later a) (Cause.later b) = a.answer ∙ sym b.answer
-same_cause law input s t x y (Cause.later a) (Cause.walked b) = absurd (taken_is law input a.untaken b.scheme b.plan b.reads)
-same_cause law input s t x y (Cause.walked a) (Cause.fault b) = absurd (no_fault _ _ _ _ a.reads.network.network b.fault)
-same_cause law input s t x y (Cause.walked a) (Cause.later b) = absurd (taken_is law input b.untaken a.scheme a.plan a.reads)
-same_cause law input s t x y (Cause.walked a) (Cause.walked b) = both_told law input s t x y a b
+same_cause : OneScheme → OnePlan → (input : List ℕ) (s t : ℕ) (x y : List ℕ) → Cause input s x → Cause input t y → said s x ≡ said t y
+same_cause law plans input s t x y (Cause.fault a) (Cause.fault b) = both_faults tail.Plan input s t x y a b
+same_cause law plans input s t x y (Cause.fault a) (Cause.faulty_plan b) = absurd (no_fault _ _ _ _ b.fault.network.network a.fault)
+same_cause law plans input s t x y (Cause.fault a) (Cause.walked b) = absurd (no_fault _ _ _ _ b.reads.network.network a.fault)
+same_cause law plans input s t x y (Cause.faulty_plan a) (Cause.fault b) = absurd (no_fault _ _ _ _ a.fault.network.network b.fault)
+same_cause law plans input s t x y (Cause.faulty_plan a) (Cause.faulty_plan b) = both_plan_faults law input s t x y a b
+same_cause law plans input s t x y (Cause.faulty_plan a) (Cause.walked b) = absurd (no_plan_fault law input a.place a.code b.scheme b.plan a.fault b.reads)
+same_cause law plans input s t x y (Cause.walked a) (Cause.fault b) = absurd (no_fault _ _ _ _ a.reads.network.network b.fault)
+same_cause law plans input s t x y (Cause.walked a) (Cause.faulty_plan b) = absurd (no_plan_fault law input b.place b.code a.scheme a.plan b.fault a.reads)
+same_cause law plans input s t x y (Cause.walked a) (Cause.walked b) = both_told law plans input s t x y a b
 
-same_pair : OneScheme → (input : List ℕ) (s t : ℕ) (x y : List ℕ) → IsAnswer input s x → IsAnswer input t y → said s x ≡ said t y
-same_pair law input s t x y a b = same_cause law input s t x y (cause_of input s x a) (cause_of input t y b)
+same_pair : OneScheme → OnePlan → (input : List ℕ) (s t : ℕ) (x y : List ℕ) → IsAnswer input s x → IsAnswer input t y → said s x ≡ said t y
+same_pair law plans input s t x y a b = same_cause law plans input s t x y (cause_of input s x a) (cause_of input t y b)
 
 -- ---- what `expand` says
 
@@ -155,12 +182,12 @@ same_expand_cause law input s t x y (ExpandCause.expanded a) (ExpandCause.expand
 
 -- ---- what a command says
 
-same_said : OneScheme → (command : Command) (input : List ℕ) (s t : ℕ) (x y : List ℕ) → AnswerOf command input s x → AnswerOf command input t y → said s x ≡ said t y
-same_said law Check input s t x y a b = same_pair law input s t x y a b
-same_said law Expand input s t x y a b = same_expand_cause law input s t x y (expand_cause_of input s x a) (expand_cause_of input t y b)
+same_said : OneScheme → OnePlan → (command : Command) (input : List ℕ) (s t : ℕ) (x y : List ℕ) → AnswerOf command input s x → AnswerOf command input t y → said s x ≡ said t y
+same_said law plans Check input s t x y a b = same_pair law plans input s t x y a b
+same_said law plans Expand input s t x y a b = same_expand_cause law input s t x y (expand_cause_of input s x a) (expand_cause_of input t y b)
 
-pub status_is : OneScheme → (command : Command) (input : List ℕ) (s t : ℕ) (x y : List ℕ) → AnswerOf command input s x → AnswerOf command input t y → s ≡ t
-status_is law command input s t x y a b = ap (λ p. p.0) (same_said law command input s t x y a b)
+pub status_is : OneScheme → OnePlan → (command : Command) (input : List ℕ) (s t : ℕ) (x y : List ℕ) → AnswerOf command input s x → AnswerOf command input t y → s ≡ t
+status_is law plans command input s t x y a b = ap (λ p. p.0) (same_said law plans command input s t x y a b)
 
-pub text_is : OneScheme → (command : Command) (input : List ℕ) (s t : ℕ) (x y : List ℕ) → AnswerOf command input s x → AnswerOf command input t y → x ≡ y
-text_is law command input s t x y a b = ap (λ p. p.1) (same_said law command input s t x y a b)
+pub text_is : OneScheme → OnePlan → (command : Command) (input : List ℕ) (s t : ℕ) (x y : List ℕ) → AnswerOf command input s x → AnswerOf command input t y → x ≡ y
+text_is law plans command input s t x y a b = ap (λ p. p.1) (same_said law plans command input s t x y a b)

@@ -8,7 +8,7 @@ use Rattle.net_csv.specs.declared.refused.Tail.TheVariants as tail
 use Rattle.netplan_top.specs.declared.words.Command.{Command}
 use Rattle.netplan_top.specs.declared.words.Command.TheVariants.{Check, Expand}
 use Rattle.netplan_top.specs.Words.{Names}
-use Rattle.netplan_top.specs.Answers.{Accepts, Passes, Rejects, Expands, Says, IsFaulty, IsLater, IsExpandAnswer, AnswerOf, IsWholeInput, IsTooLong, Gives, GivesTooLong, IsCut, IsSomeText, IsAllowed, IsStatus}
+use Rattle.netplan_top.specs.Answers.{Accepts, Passes, Rejects, Expands, Says, IsFaulty, IsPlanFaulty, IsExpandAnswer, AnswerOf, IsWholeInput, IsTooLong, Gives, GivesTooLong, IsCut, IsSomeText, IsAllowed, IsStatus}
 use Rattle.netplan_top.specs.Endings.{IsPrinted, Streams, Ending}
 use Rattle.netplan_top.proofs.WordFacts.{apart}
 
@@ -153,18 +153,18 @@ rejected words Check io status named ends e = (
 rejected words Expand io status named ends e = absurd (no_reject io status ends e)
 
 one_of : {left left' written written' : Option (List ℕ)}
-    → Gives (λ input text. IsFaulty tail.Plan input text ⊎ IsLater input text) left left' written written'
-    → Gives (IsFaulty tail.Plan) left left' written written' ⊎ Gives IsLater left left' written written'
+    → Gives (λ input text. IsFaulty tail.Plan input text ⊎ IsPlanFaulty input text) left left' written written'
+    → Gives (IsFaulty tail.Plan) left left' written written' ⊎ Gives IsPlanFaulty left left' written written'
 one_of given = elim given.says [
   | inl faulty ↦ inl (record { input = given.input; text = given.text; whole = given.whole; says = faulty; wrote = given.wrote })
-  | inr later ↦ inr (record { input = given.input; text = given.text; whole = given.whole; says = later; wrote = given.wrote })
+  | inr plan ↦ inr (record { input = given.input; text = given.text; whole = given.whole; says = plan; wrote = given.wrote })
 ]
 
 pub refused : (words : List (String Global)) (command : Command) (io : Streams) (status : ℕ) → Names words command → Ending command io status → Names words Check → status ≡ 5
-    → Gives (IsFaulty tail.Plan) io.left io.left' io.written io.written' ⊎ Gives IsLater io.left io.left' io.written io.written' ⊎ GivesTooLong io.left io.left' io.written io.written'
+    → Gives (IsFaulty tail.Plan) io.left io.left' io.written io.written' ⊎ Gives IsPlanFaulty io.left io.left' io.written io.written' ⊎ GivesTooLong io.left io.left' io.written io.written'
 refused words Check io status named ends check e =
-    elim (gives_fault Check io status ends (λ input text. IsFaulty tail.Plan input text ⊎ IsLater input text) e (λ input text answer. answer.refuses e)) [
-      | inl given ↦ elim (one_of given) [ inl faulty ↦ inl faulty | inr later ↦ inr (inl later) ]
+    elim (gives_fault Check io status ends (λ input text. IsFaulty tail.Plan input text ⊎ IsPlanFaulty input text) e (λ input text answer. answer.refuses e)) [
+      | inl given ↦ elim (one_of given) [ inl faulty ↦ inl faulty | inr plan ↦ inr (inl plan) ]
       | inr long ↦ inr (inr long)
     ]
 refused words Expand io status named ends check e = absurd (apart words check named)

@@ -1,21 +1,22 @@
 -- What the program answers, with the cause of each answer.
 use Rattle.std.specs.Prelude.{◌≡◌, ℕ, ◌+◌, ◌<◌, ◌≤◌, ◌⊎◌, Option, Ok, Err, List, length, codes, take}
 use Rattle.std.specs.Io.KnownBytes.{prepend_known, append_known, IsAtEnd}
-use Rattle.np_frac.specs.Ratio.{Ratio}
 use Rattle.np_frac.specs.declared.frac.Past.{Past}
 use Rattle.np_io.specs.Faults.{Rose}
 use Rattle.np_io.specs.Input.{TookExactly}
 use Rattle.net_csv.specs.Words.{code_word}
 use Rattle.net_csv.specs.declared.refused.Code.{Code}
 use Rattle.net_csv.specs.declared.refused.Tail.{Tail}
+use Rattle.certificates.specs.Words.{code_word as plan_code_word}
+use Rattle.certificates.specs.declared.refused.Code.{Code as PlanCode}
 use Rattle.net_csv.specs.declared.refused.Tail.TheVariants as tail
 use Rattle.np_model.specs.declared.plan.CheckRow.{CheckRow}
 use Rattle.np_model.specs.declared.plan.Plan.{Plan}
 use Rattle.np_model.specs.declared.scheme.Scheme.{Scheme}
 use Rattle.cert_checker.specs.Walk.{walk}
-use Rattle.cert_checker.specs.Proves.{ProvesOptimal}
+use Rattle.cert_checker.specs.Proves.{Proves}
 use Rattle.cert_checker.specs.declared.answer.Clause.{Clause}
-use Rattle.cert_checker.specs.declared.answer.Checked.TheVariants as checked
+use Rattle.cert_checker.specs.declared.answer.Checked.{Checked}
 use Rattle.cert_checker.specs.declared.answer.CheckRefusal.{CheckRefusal}
 use Rattle.cert_checker.specs.declared.answer.CheckRefusal.TheVariants as refusal
 use Rattle.std.specs.declared.string.String.{String}
@@ -25,7 +26,7 @@ use Rattle.netplan_top.specs.declared.stop.Stop.TheVariants as stop
 use Rattle.netplan_top.specs.declared.words.Command.{Command}
 use Rattle.netplan_top.specs.declared.words.Command.TheVariants.{Check, Expand}
 use Rattle.netplan_top.specs.Words.{Names, IsCommand, usage_text}
-use Rattle.netplan_top.specs.Reads.{IsFault, IsUntaken, IsNetwork, Reads}
+use Rattle.netplan_top.specs.Reads.{IsFault, IsPlanFault, IsNetwork, Reads}
 use Rattle.netplan_top.specs.Texts.{refused_text, check_text, accepted_line, rejected_line, past_line}
 use Rattle.netplan_top.specs.NetText.{net_text}
 
@@ -35,12 +36,13 @@ longest = 16777216
 
 -- ---- what is said of a scheme and a plan, and the text that says it
 
--- the walk over the plan leaves nothing: no feasible list of ratios costs less, and the text prints that cost
+-- the walk over the plan leaves nothing, and the plan is what the text says: no feasible list of ratios costs less than an
+-- optimal one, there is none, or every cost is undercut by one
 pub record Accepts (scheme : Scheme) (plan : Plan) (text : List ℕ) : Type 0 where
-  pub cost : Ratio
-  pub walked : walk scheme plan ≡ Ok (checked.Optimal cost)
-  pub proved : ProvesOptimal scheme plan cost
-  pub text_is : text ≡ check_text (accepted_line cost)
+  pub answer : Checked
+  pub walked : walk scheme plan ≡ Ok answer
+  pub proved : Proves scheme plan answer
+  pub text_is : text ≡ check_text (accepted_line answer)
 
 -- this clause is the first thing that fails in the walk
 pub record Rejects (scheme : Scheme) (plan : Plan) (text : List ℕ) : Type 0 where
@@ -73,10 +75,12 @@ pub record IsFaulty (behind : Tail) (input : List ℕ) (text : List ℕ) : Type 
   pub fault : IsFault behind input place code
   pub text_is : text ≡ refused_text place (code_word code)
 
--- the network text has none, and what is there is not taken so far
-pub record IsLater (input : List ℕ) (text : List ℕ) : Type 0 where
-  pub untaken : IsUntaken input
-  pub text_is : text ≡ refused_text 0 (codes "Later")
+-- the network text has none, and the plan text behind it has a first fault, which the text names
+pub record IsPlanFaulty (input : List ℕ) (text : List ℕ) : Type 0 where
+  pub place : ℕ
+  pub code : PlanCode
+  pub fault : IsPlanFault input place code
+  pub text_is : text ≡ refused_text place (plan_code_word code)
 
 -- the input is the network text of a scheme, and the text is that of its expanded network
 pub record Expands (input : List ℕ) (text : List ℕ) : Type 0 where
@@ -88,7 +92,7 @@ pub record Expands (input : List ℕ) (text : List ℕ) : Type 0 where
 pub record IsAnswer (input : List ℕ) (status : ℕ) (text : List ℕ) : Type 0 where
   pub accepts : status ≡ 0 → Says Accepts input text
   pub passes : status ≡ 4 → Says Passes input text
-  pub refuses : status ≡ 5 → IsFaulty tail.Plan input text ⊎ IsLater input text
+  pub refuses : status ≡ 5 → IsFaulty tail.Plan input text ⊎ IsPlanFaulty input text
   pub rejects : status ≡ 10 → Says Rejects input text
   pub known : (status ≡ 0) ⊎ (status ≡ 4) ⊎ (status ≡ 5) ⊎ (status ≡ 10)
 
@@ -167,8 +171,8 @@ pub record IsJudged (scheme : Scheme) (plan : Plan) (status : ℕ) (text : List 
 
 -- why the input was not read, with the status and the text of it
 abbrev pub IsStopped : Stop → ℕ → List ℕ → Type 0
-IsStopped (stop.Fault place code) status text = (status ≡ 5) × (text ≡ refused_text place (code_word code))
-IsStopped stop.Outside status text = (status ≡ 5) × (text ≡ refused_text 0 (codes "Later"))
+IsStopped (stop.Network place code) status text = (status ≡ 5) × (text ≡ refused_text place (code_word code))
+IsStopped (stop.Plan place code) status text = (status ≡ 5) × (text ≡ refused_text place (plan_code_word code))
 IsStopped stop.Memory status text = ⊥
 
 -- ---- the statuses

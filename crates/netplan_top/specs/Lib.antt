@@ -1,12 +1,7 @@
-pub mod Fields
-pub mod Split
-pub mod PlanForm
 pub mod Reads
 pub mod Texts
 pub mod NetText
 pub mod Words
 pub mod Answers
 pub mod Endings
-pub mod ClaimsRead
-pub mod InputRead
 pub mod Stops

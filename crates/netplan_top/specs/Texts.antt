@@ -1,15 +1,14 @@
 -- The texts that the program prints. Each is a list of records, as `csv` writes them one after the other.
 use Rattle.std.specs.Prelude.{ℕ, Option, Some, None, List, [], ◌∷◌, codes, slice_index_or, map}
 use Rattle.std.specs.Fmt.{decimal}
-use Rattle.np_frac.specs.Ratio.{Ratio}
 use Rattle.np_frac.specs.Text.{printed}
-use Rattle.np_frac.specs.declared.frac.Op.{Op}
-use Rattle.np_frac.specs.declared.frac.Op.TheVariants.{Plus, Minus, Times, Over}
 use Rattle.np_frac.specs.declared.frac.Past.{Past}
 use Rattle.np_records.specs.Texts.{records_text}
 use Rattle.np_model.specs.declared.plan.CheckRow.{CheckRow}
-use Rattle.np_model.specs.declared.plan.CheckRow.TheVariants.{C0, C1, C2, C3, C4, C5, C6}
 use Rattle.np_model.specs.declared.scheme.Scheme.{Scheme}
+use Rattle.certificates.specs.Writing.{op_word, check_row_word}
+use Rattle.cert_checker.specs.declared.answer.Checked.{Checked}
+use Rattle.cert_checker.specs.declared.answer.Checked.TheVariants as checked
 use Rattle.cert_checker.specs.declared.answer.Clause.{Clause}
 use Rattle.cert_checker.specs.declared.answer.Clause.TheVariants.{Balance, Bound, Reduced, Cost, Upper, Gap, RaySign, RayUpper, RayBalance, RayCost, Uncertified}
 
@@ -29,8 +28,11 @@ refused_text place code = framed_text (codes "netplan-refused") (codes "fault" �
 abbrev pub check_text : List (List ℕ) → List ℕ
 check_text line = framed_text (codes "netplan-check") line
 
-abbrev pub accepted_line : Ratio → List (List ℕ)
-accepted_line cost = codes "accepted" ∷ codes "optimal" ∷ printed cost ∷ []
+-- what a plan was shown to be, with its cost or its gap
+abbrev pub accepted_line : Checked → List (List ℕ)
+accepted_line (checked.Optimal cost) = codes "accepted" ∷ codes "optimal" ∷ printed cost ∷ []
+accepted_line (checked.Infeasible gap) = codes "accepted" ∷ codes "infeasible" ∷ printed gap ∷ []
+accepted_line checked.Unbounded = codes "accepted" ∷ codes "unbounded" ∷ []
 
 unfoldable pub clause_word : Clause → List ℕ
 clause_word Balance = codes "balance"
@@ -56,20 +58,5 @@ abbrev pub rejected_line : Scheme → Clause → Option ℕ → ℕ → List (Li
 rejected_line scheme clause None period = codes "rejected" ∷ clause_word clause ∷ []
 rejected_line scheme clause (Some i) period = codes "rejected" ∷ clause_word clause ∷ name_at scheme clause i ∷ decimal period ∷ []
 
-unfoldable pub row_word : CheckRow → List ℕ
-row_word C0 = codes "C0"
-row_word C1 = codes "C1"
-row_word C2 = codes "C2"
-row_word C3 = codes "C3"
-row_word C4 = codes "C4"
-row_word C5 = codes "C5"
-row_word C6 = codes "C6"
-
-unfoldable pub op_word : Op → List ℕ
-op_word Plus = codes "plus"
-op_word Minus = codes "minus"
-op_word Times = codes "times"
-op_word Over = codes "over"
-
 abbrev pub past_line : CheckRow → Past → List (List ℕ)
-past_line row past = codes "past" ∷ row_word row ∷ op_word past.op ∷ printed past.left ∷ printed past.right ∷ []
+past_line row past = codes "past" ∷ check_row_word row ∷ op_word past.op ∷ printed past.left ∷ printed past.right ∷ []

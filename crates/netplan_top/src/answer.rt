@@ -1,20 +1,18 @@
 //! What is said of an input.
 
 ghost use Rattle.std.specs.Prelude.{◌≡◌, ◌<◌, ◌^◌, IfOk, length};
-ghost use Rattle.np_model.specs.declared.plan.Verdict.TheVariants as verdict;
 ghost use Rattle.np_model.specs.Fits.{PlanFits};
-ghost use Rattle.cert_checker.specs.Plain.{IsPlain};
 ghost use Rattle.netplan_top.specs.Answers.{IsAnswer, IsExpandAnswer, AnswerOf, IsJudged, IsRefused, IsStopped};
 ghost use Rattle.netplan_top.specs.NetText.{net_text};
 
 use crate::input::read_input;
 use crate::net_text::net_text;
-use crate::stop::{Stop, stop_of};
+use crate::stop::{Stop, network_stop};
 use crate::texts::{accepted, passed, refusal, rejected};
 use crate::words::Command;
 use cert_checker::{CheckRefusal, check};
 use net_csv::{Tail, read_scheme};
-use np_frac::{Frac, Memory};
+use np_frac::Memory;
 use np_model::{Plan, Scheme};
 use std::alloc::Global;
 
@@ -48,14 +46,12 @@ fn refused(alloc: Global, scheme: &Scheme, why: CheckRefusal) -> Result<Answer, 
 
 // What the checker says of a plan.
 fn judged(alloc: Global, scheme: &Scheme, plan: &Plan) -> Result<Answer, Memory>
-    requires plain { IsPlain scheme.now }
-    requires optimal { plan.now.verdict ≡ verdict.Optimal }
-    requires fits { PlanFits scheme.now plan.now }
+    requires { PlanFits scheme.now plan.now }
     ensures { IfOk result (λ answer. IsJudged scheme.now plan.now answer.status answer.text.items) }
 {
     match check(alloc, scheme, plan) {
-        Ok(_) => {
-            let text = accepted(alloc, plan.amount.unwrap_or(Frac::whole(0)))?;
+        Ok(checked) => {
+            let text = accepted(alloc, checked)?;
             Ok(Answer { status: 0, text })
         }
         Err(why) => refused(alloc, scheme, why),
@@ -67,8 +63,8 @@ fn stopped(alloc: Global, stop: Stop) -> Result<Answer, Memory>
     ensures { IfOk result (λ answer. IsStopped stop answer.status answer.text.items) }
 {
     let text = match stop {
-        Stop::Fault { place, code } => refusal(alloc, place, code.word())?,
-        Stop::Outside => refusal(alloc, 0, b"Later")?,
+        Stop::Network { place, code } => refusal(alloc, place, code.word())?,
+        Stop::Plan { place, code } => refusal(alloc, place, code.word())?,
         Stop::Memory => return Err(Memory),
     };
     Ok(Answer { status: 5, text })
@@ -100,7 +96,7 @@ fn expand_answer(alloc: Global, bytes: &[u8]) -> Result<Answer, Memory>
 {
     match read_scheme(alloc, bytes, Tail::Nothing) {
         Ok(read) => expanded(alloc, &read.0),
-        Err(refused) => stopped(alloc, stop_of(refused)),
+        Err(refused) => stopped(alloc, network_stop(refused)),
     }
 }
 

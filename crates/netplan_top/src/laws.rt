@@ -1,17 +1,23 @@
 //! Laws of what is read and of what is said of it, as the clauses of functions that do nothing.
 
-ghost use Rattle.std.specs.Prelude.{◌≡◌, ℕ, List, length, map};
+ghost use Rattle.std.specs.Prelude.{◌≡◌, ◌++◌, ℕ, Bool, List, length, map};
 ghost use Rattle.std.specs.List.{flat_map};
 ghost use Rattle.np_model.specs.declared.scheme.Scheme.{Scheme};
 ghost use Rattle.np_model.specs.declared.plan.Plan.{Plan};
 ghost use Rattle.np_model.specs.Schemes.{staged};
 ghost use Rattle.np_model.specs.Stages.{Stage};
+ghost use Rattle.np_model.specs.Fits.{PlanFits};
+ghost use Rattle.np_records.specs.Texts.{records_text};
+ghost use Rattle.net_csv.specs.Writing.{rows_of};
+ghost use Rattle.certificates.specs.Writing.{plan_rows, told, HasFractions};
+ghost use Rattle.cert_checker.specs.Walk.{walk};
 ghost use Rattle.convex_arcs.specs.Segments.{flat_arcs};
 ghost use Rattle.netplan_top.specs.declared.words.Command.{Command};
 ghost use Rattle.netplan_top.specs.Reads.{Reads};
 ghost use Rattle.netplan_top.specs.Answers.{AnswerOf};
 ghost use Rattle.netplan_top.specs.NetText.{numbered_segments, segment_arc, arc_records};
 
+use certificates::laws::{one_plan, written_plans_are_read};
 use net_csv::laws::one_scheme;
 
 /// An input stands for at most one scheme and one plan.
@@ -20,6 +26,17 @@ pub fn one_reading()
     ensures plan { (input : List ℕ) (s t : Scheme) (p q : Plan) → Reads input s p → Reads input t q → p ≡ q }
 {
     one_scheme();
+    one_plan();
+}
+
+/// The text of a scheme with the text of a plan behind it stands for that scheme and for what was written of the plan, and
+/// the walk over that is the walk over the plan. So `check` says of the texts what the checker says of the plan.
+pub fn written_inputs()
+    ensures reads { (scheme : Scheme) (plan : Plan) (log : Bool) → PlanFits scheme plan → HasFractions (told plan log)
+        → Reads (records_text (rows_of scheme ++ plan_rows scheme plan log)) scheme (told plan log) }
+    ensures walk { (scheme : Scheme) (plan : Plan) (log : Bool) → walk scheme (told plan log) ≡ walk scheme plan }
+{
+    written_plans_are_read();
 }
 
 /// What a command says of an input, by the statuses 0, 4, 5 and 10, is one status and one text.
@@ -28,6 +45,7 @@ pub fn one_answer()
     ensures text { (command : Command) (input : List ℕ) (s t : ℕ) (x y : List ℕ) → AnswerOf command input s x → AnswerOf command input t y → x ≡ y }
 {
     one_scheme();
+    one_plan();
 }
 
 /// The text of an expanded network lists the arcs of that network in order and no others, and its size record counts them.

@@ -2,13 +2,9 @@
 #![tactic(auto)]
 
 mod answer;
-mod claims;
-mod fields;
 mod input;
 pub mod laws;
-mod names;
 mod net_text;
-mod rows;
 mod stop;
 mod texts;
 mod top;

@@ -9,7 +9,7 @@ ghost use Rattle.period_expand.specs.Expansion.{segment_count};
 ghost use Rattle.convex_arcs.specs.Segments.{first_arc, band_arc, flat_arcs};
 ghost use Rattle.netplan_top.specs.NetText.{ends_fields, upper_field, arc_fields, arc_record, node_record, node_records, numbered_segments, net_text};
 
-use crate::texts::{flow_name, fraction, node_name};
+use crate::texts::fraction;
 use convex_arcs::laws::places;
 use itoa::Buffer;
 use np_frac::{Frac, Memory};
@@ -52,7 +52,7 @@ fn push_node(
     push_node_fields(
         text,
         digits.format(number).as_bytes(),
-        node_name(scheme, number % count),
+        scheme.nodes.name_at(number % count),
         period.format(number / count + 1).as_bytes(),
         supply.as_slice(),
     )
@@ -202,7 +202,7 @@ fn push_arc(
     push_arc_fields(
         text,
         digits.format(number).as_bytes(),
-        flow_name(scheme, staged.flow as usize),
+        scheme.flows.name_at(staged.flow as usize),
         period.format(staged.period).as_bytes(),
         place.format(segment).as_bytes(),
         &arc,

@@ -1,39 +1,41 @@
 //! Why reading stopped.
 
 ghost use Rattle.std.specs.Prelude.{◌≡◌};
-ghost use Rattle.netplan_top.specs.Stops.{stop_of};
+ghost use Rattle.netplan_top.specs.Stops.{network_stop, plan_stop};
 
-use net_csv::{Code, Refused};
-use np_frac::Memory;
-
-/// Why an input was not read to its end.
+/// Why an input was not read to its end. Records are numbered from 1 over the whole input.
 #[derive(Clone, Copy, Debug, PartialEq, Eq)]
 pub(crate) enum Stop {
-    /// The network text has this fault at the record with this number, from 1.
-    Fault { place: u32, code: Code },
-    /// What stands there is not taken so far.
-    Outside,
+    /// The network text has this fault at the record with this number.
+    Network {
+        place: u32,
+        code: net_csv::Code,
+    },
+    /// The plan text behind it has this fault there.
+    Plan {
+        place: u32,
+        code: certificates::Code,
+    },
     /// Memory ran out.
     Memory,
 }
 
-impl From<Memory> for Stop {
-    ghost use Rattle.std.specs.Prelude.{◌≡◌};
-    ghost use Rattle.netplan_top.specs.declared.stop.Stop.TheVariants as stop;
-
-    ghost from_gives = { λ _ e. e ≡ stop.Memory };
-
-    fn from(_memory: Memory) -> Stop {
-        Stop::Memory
+/// Why a network text was not read.
+pub(crate) fn network_stop(refused: net_csv::Refused) -> Stop
+    ensures { result ≡ network_stop refused }
+{
+    match refused {
+        net_csv::Refused::Fault { place, code } => Stop::Network { place, code },
+        net_csv::Refused::Memory => Stop::Memory,
     }
 }
 
-/// Why a network text was not read.
-pub(crate) fn stop_of(refused: Refused) -> Stop
-    ensures { result ≡ stop_of refused }
+/// Why a plan text was not read.
+pub(crate) fn plan_stop(refused: certificates::Refused) -> Stop
+    ensures { result ≡ plan_stop refused }
 {
     match refused {
-        Refused::Fault { place, code } => Stop::Fault { place, code },
-        Refused::Memory => Stop::Memory,
+        certificates::Refused::Fault { place, code } => Stop::Plan { place, code },
+        certificates::Refused::Memory => Stop::Memory,
     }
 }

@@ -2,12 +2,13 @@
 
 ghost use Rattle.std.specs.Prelude.{◌≡◌, ◌∷◌, [], IfOk, codes, map, slice_index_or};
 ghost use Rattle.np_frac.specs.Text.{printed};
-ghost use Rattle.netplan_top.specs.Texts.{framed_text, refused_text, check_text, accepted_line, clause_word, name_at, rejected_line, row_word, op_word, past_line};
+ghost use Rattle.netplan_top.specs.Texts.{framed_text, refused_text, check_text, accepted_line, clause_word, name_at, rejected_line, past_line};
 
-use cert_checker::Clause;
+use cert_checker::{Checked, Clause};
+use certificates::{check_row_word, op_word};
 use itoa::Buffer;
-use np_frac::{Frac, Memory, Op, Past, write_frac};
-use np_model::{CheckRow, Name, Scheme};
+use np_frac::{Frac, Memory, Past, write_frac};
+use np_model::{CheckRow, Scheme};
 use np_records::Text;
 use std::alloc::Global;
 
@@ -54,20 +55,31 @@ pub(crate) fn fraction(alloc: Global, value: Frac) -> Result<Vec<u8>, Memory>
     Ok(bytes)
 }
 
-/// The text that accepts an optimal plan.
-pub fn accepted(alloc: Global, cost: Frac) -> Result<Vec<u8>, Memory>
-    ensures { IfOk result (λ text. text.items ≡ check_text (accepted_line cost)) }
+// The text that accepts a plan with this word, and its cost or its gap.
+fn accepted_with(alloc: Global, word: &[u8], amount: Frac) -> Result<Vec<u8>, Memory>
+    ensures { IfOk result (λ text. text.items ≡ check_text (codes "accepted" ∷ word.now ∷ printed amount ∷ [])) }
 {
-    let cost = fraction(alloc, cost)?;
+    let amount = fraction(alloc, amount)?;
     framed(
         alloc,
         b"netplan-check".as_slice(),
-        &[
-            b"accepted".as_slice(),
-            b"optimal".as_slice(),
-            cost.as_slice(),
-        ],
+        &[b"accepted".as_slice(), word, amount.as_slice()],
     )
+}
+
+/// The text that accepts a plan for what it was shown to be.
+pub fn accepted(alloc: Global, checked: Checked) -> Result<Vec<u8>, Memory>
+    ensures { IfOk result (λ text. text.items ≡ check_text (accepted_line checked)) }
+{
+    match checked {
+        Checked::Optimal(cost) => accepted_with(alloc, b"optimal", cost),
+        Checked::Infeasible(gap) => accepted_with(alloc, b"infeasible", gap),
+        Checked::Unbounded => framed(
+            alloc,
+            b"netplan-check".as_slice(),
+            &[b"accepted".as_slice(), b"unbounded".as_slice()],
+        ),
+    }
 }
 
 #[tactic(auto, unfolding(crate::specs::Texts::clause_word))]
@@ -89,38 +101,14 @@ fn word_of_clause(clause: Clause) -> &'static [u8]
     }
 }
 
-/// The name of a node, and nothing where there is none with this number.
-pub(crate) fn node_name(scheme: &Scheme, index: usize) -> &[u8]
-    ensures { result.now ≡ slice_index_or scheme.now.nodes index [] }
-{
-    let names: &[Name] = scheme.nodes.as_slice();
-    if index < names.len() {
-        names[index].as_slice()
-    } else {
-        b""
-    }
-}
-
-/// The name of a flow, and nothing where there is none with this number.
-pub(crate) fn flow_name(scheme: &Scheme, index: usize) -> &[u8]
-    ensures { result.now ≡ slice_index_or (map (λ flow. flow.name) scheme.now.flows) index [] }
-{
-    let flows = scheme.flows.as_slice();
-    if index < flows.len() {
-        flows[index].name.as_slice()
-    } else {
-        b""
-    }
-}
-
 // The name at a clause's place.
 #[tactic(auto, unfolding(crate::specs::Texts::name_at))]
 fn name_of(scheme: &Scheme, clause: Clause, index: usize) -> &[u8]
     ensures { result.now ≡ name_at scheme.now clause index }
 {
     match clause {
-        Clause::Balance | Clause::RayBalance => node_name(scheme, index),
-        _ => flow_name(scheme, index),
+        Clause::Balance | Clause::RayBalance => scheme.nodes.name_at(index),
+        _ => scheme.flows.name_at(index),
     }
 }
 
@@ -169,33 +157,6 @@ pub fn rejected(
     }
 }
 
-#[tactic(auto, unfolding(crate::specs::Texts::row_word))]
-fn word_of_row(row: CheckRow) -> &'static [u8]
-    ensures { result.now ≡ row_word row }
-{
-    match row {
-        CheckRow::C0 => b"C0",
-        CheckRow::C1 => b"C1",
-        CheckRow::C2 => b"C2",
-        CheckRow::C3 => b"C3",
-        CheckRow::C4 => b"C4",
-        CheckRow::C5 => b"C5",
-        CheckRow::C6 => b"C6",
-    }
-}
-
-#[tactic(auto, unfolding(crate::specs::Texts::op_word))]
-fn word_of_op(op: Op) -> &'static [u8]
-    ensures { result.now ≡ op_word op }
-{
-    match op {
-        Op::Plus => b"plus",
-        Op::Minus => b"minus",
-        Op::Times => b"times",
-        Op::Over => b"over",
-    }
-}
-
 /// The text that tells the operation that passes first.
 pub fn passed(alloc: Global, row: CheckRow, past: Past) -> Result<Vec<u8>, Memory>
     ensures { IfOk result (λ text. text.items ≡ check_text (past_line row past)) }
@@ -207,8 +168,8 @@ pub fn passed(alloc: Global, row: CheckRow, past: Past) -> Result<Vec<u8>, Memor
         b"netplan-check".as_slice(),
         &[
             b"past".as_slice(),
-            word_of_row(row),
-            word_of_op(past.op),
+            check_row_word(row),
+            op_word(past.op),
             left.as_slice(),
             right.as_slice(),
         ],

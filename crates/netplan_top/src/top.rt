@@ -5,7 +5,7 @@ ghost use Rattle.np_io.specs.Faults.{Rose};
 ghost use Rattle.net_csv.specs.declared.refused.Tail.TheVariants as tail;
 ghost use Rattle.netplan_top.specs.declared.words.Command.TheVariants as command;
 ghost use Rattle.netplan_top.specs.Words.{Names, IsCommand, usage_text};
-ghost use Rattle.netplan_top.specs.Answers.{Accepts, Passes, Rejects, Expands, IsFaulty, IsLater, Says, Gives, GivesTooLong, IsCut, IsAllowed, IsStatus, Wrote};
+ghost use Rattle.netplan_top.specs.Answers.{Accepts, Passes, Rejects, Expands, IsFaulty, IsPlanFaulty, Says, Gives, GivesTooLong, IsCut, IsAllowed, IsStatus, Wrote};
 ghost use Rattle.netplan_top.specs.Endings.{IsPrinted, Ending};
 
 use crate::answer::answer_of;
@@ -61,17 +61,19 @@ fn answer_input<S: Source, K: Sink>(
 
 /// Runs the command that the words name over the source and the sink, and answers the exit status.
 ///
-/// `check` reads a network text with a plan text behind it, and writes whether the plan is a least-cost plan. `expand`
+/// `check` reads a network text with a plan text behind it, and writes whether the plan shows what it claims. `expand`
 /// reads a network text, and writes its expanded network: a plain network with a node for each node in each period and an
 /// arc for each segment of each flow in each period. The whole text is made before its first byte is written. The words
 /// are looked at first: where they are no command, nothing is read and no memory is taken.
 ///
 /// | status | text | when |
 /// |---|---|---|
-/// | 0 | of `check`: accepted, with the cost | no feasible plan costs less |
+/// | 0 | of `check`: accepted as optimal, with the cost | no feasible plan costs less |
+/// | 0 | of `check`: accepted as infeasible, with the gap | there is no feasible plan |
+/// | 0 | of `check`: accepted as unbounded | every cost is undercut by some feasible plan |
 /// | 0 | of `expand`: the expanded network | the input is a network text, and nothing stands behind it |
 /// | 4 | the operation | of `check`: its exact result does not fit a fraction, and nothing before it in the walk fails |
-/// | 5 | the fault | the network text has this first fault; or, of `check`, it has none, and what stands there is not taken so far (`Later`); or the input has more than 16,777,216 bytes (`TooLong`) |
+/// | 5 | the fault | the network text has this first fault; or, of `check`, it has none, and the plan text behind it has this one; or the input has more than 16,777,216 bytes (`TooLong`) |
 /// | 6 | usage | the words are no command |
 /// | 7 | nothing | the source failed |
 /// | 8 | a part of a text | the sink failed |
@@ -98,7 +100,7 @@ pub fn run<S: Source, K: Sink, G: Gate>(
     ensures rejected { result ≡ 10 → Names words.now command.Check × Gives (Says Rejects) (S.left source.old) (S.left source.new) (K.written sink.old) (K.written sink.new) }
     ensures refused { Names words.now command.Check → result ≡ 5
         → Gives (IsFaulty tail.Plan) (S.left source.old) (S.left source.new) (K.written sink.old) (K.written sink.new)
-        ⊎ Gives IsLater (S.left source.old) (S.left source.new) (K.written sink.old) (K.written sink.new)
+        ⊎ Gives IsPlanFaulty (S.left source.old) (S.left source.new) (K.written sink.old) (K.written sink.new)
         ⊎ GivesTooLong (S.left source.old) (S.left source.new) (K.written sink.old) (K.written sink.new) }
 
     // `expand` read the whole input, and the text is that of its expanded network, or names its first fault.

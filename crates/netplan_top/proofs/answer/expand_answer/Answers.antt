@@ -2,7 +2,7 @@ use Rattle.std.proofs.Common.{◌≡◌}
 use Rattle.std.proofs.lemmas.Result.{IfOk-weaker}
 use Rattle.netplan_top.specs.Answers.{IsExpandAnswer, IsStopped}
 use Rattle.netplan_top.specs.NetText.{net_text}
-use Rattle.netplan_top.specs.Stops.{stop_of}
+use Rattle.netplan_top.specs.Stops.{network_stop}
 use Rattle.netplan_top.specs.declared.answer.Answer.{Answer}
 use Rattle.netplan_top.proofs.AnswerFacts.{expand_made, expand_stopped}
 use Rattle.netplan_top.proofs.answer.expand_answer.Goals as goal
@@ -14,5 +14,5 @@ returns-in-Ok c =
 
 pub returns-in-Err : goal.returns-in-Err
 returns-in-Err c =
-    IfOk-weaker c.stopped.result (λ (a : Answer). IsStopped (stop_of c.in-Err.refused) a.status a.text.items) (λ (a : Answer). IsExpandAnswer c.args.bytes.now a.status a.text.items)
-    (λ a told. expand_stopped c.args.bytes.now c.in-Err.refused a.status a.text.items c.in-Err.ensures told) (rw c.stop_of.ensures at c.stopped.ensures)
+    IfOk-weaker c.stopped.result (λ (a : Answer). IsStopped (network_stop c.in-Err.refused) a.status a.text.items) (λ (a : Answer). IsExpandAnswer c.args.bytes.now a.status a.text.items)
+    (λ a told. expand_stopped c.args.bytes.now c.in-Err.refused a.status a.text.items c.in-Err.ensures told) (rw c.network_stop.ensures at c.stopped.ensures)

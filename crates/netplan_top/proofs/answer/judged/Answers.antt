@@ -1,4 +1,3 @@
-use Rattle.std.proofs.Common.{◌∙◌, ap, unwrap_or}
 use Rattle.std.proofs.lemmas.Result.{IfOk-weaker}
 use Rattle.netplan_top.specs.Answers.{IsJudged, IsRefused}
 use Rattle.netplan_top.specs.declared.answer.Answer.{Answer}
@@ -7,8 +6,7 @@ use Rattle.netplan_top.proofs.answer.judged.Goals as goal
 
 pub returns-in_ok-text-in-Ok : goal.returns-in_ok-text-in-Ok
 returns-in_ok-text-in-Ok c =
-    judged_accepted c.args.scheme.now c.args.plan.now c.in-Ok.field-0 c.unwrap_or.result c.in_ok-text-in-Ok.text.items c.in-Ok.ensures.walk (c.in-Ok.ensures.optimal c.requires.optimal) c.in-Ok.ensures.proves
-    (c.unwrap_or.ensures ∙ ap (λ zero. unwrap_or c.args.plan.now.amount zero) c.whole.ensures) c.in_ok-text-in-Ok.ensures
+    judged_accepted c.args.scheme.now c.args.plan.now c.in-Ok.checked c.in_ok-text-in-Ok.text.items c.in-Ok.ensures.walk c.in-Ok.ensures.proves c.in_ok-text-in-Ok.ensures
 
 pub returns-in-Err : goal.returns-in-Err
 returns-in-Err c =

@@ -5,4 +5,4 @@ pub returns-clause-scheme : goal.returns-clause-scheme
 returns-clause-scheme c = scheme_is c.one_scheme.ensures
 
 pub returns-clause-plan : goal.returns-clause-plan
-returns-clause-plan c = plan_is c.one_scheme.ensures
+returns-clause-plan c = plan_is c.one_scheme.ensures c.one_plan.ensures
