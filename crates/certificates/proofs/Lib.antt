@@ -8,6 +8,7 @@ mod SoFar
 mod NewClaims
 mod PlanFacts
 mod OutlineFacts
+mod PeriodAmounts
 mod PlanRead
 mod OnePlan
 mod Runs

@@ -1,8 +1,10 @@
 -- What reading gives, and when it stops.
-use Rattle.std.specs.Prelude.{Bool, true, false, ◌≡◌, ℕ, ◌+◌, ◌-◌, ◌*◌, ◌^◌, ◌<◌, ◌≤◌, ⊤, Option, Some, None, Result, Ok, Err, List, ◌++◌, length, drop, set, codes, if◌then◌else◌}
+use Rattle.std.specs.Prelude.{nat_lt, Bool, true, false, ◌≡◌, ℕ, ◌+◌, ◌-◌, ◌*◌, ◌^◌, ◌<◌, ◌≤◌, ⊤, Option, Some, None, Result, Ok, Err, List, ◌++◌, length, drop, set, codes, if◌then◌else◌}
 use Rattle.np_frac.specs.Ratio.{Ratio}
 use Rattle.np_records.specs.Records.{field_of}
+use Rattle.np_model.specs.declared.scheme.FlowKind.{FlowKind}
 use Rattle.np_model.specs.declared.scheme.Scheme.{Scheme}
+use Rattle.np_model.specs.Valid.{periods_of}
 use Rattle.np_model.specs.declared.plan.Plan.{Plan}
 use Rattle.np_model.specs.declared.plan.Verdict.{Verdict}
 use Rattle.np_model.specs.Fits.{PlanFits}
@@ -13,11 +15,11 @@ use Rattle.certificates.specs.declared.refused.Refused.TheVariants as refused
 use Rattle.certificates.specs.declared.refused.Stop.{Stop}
 use Rattle.certificates.specs.declared.refused.Stop.TheVariants as stop
 use Rattle.certificates.specs.Fields.{fraction_in, whole_in, overflow_in, entry_in}
-use Rattle.certificates.specs.Claims.{Outline, Claims, outline_of, claims_of}
+use Rattle.certificates.specs.Claims.{Outline, Claims, outline_of, place_with, claims_of}
 use Rattle.certificates.specs.Faults.{record_fault, end_fault, is_complete, place_named}
-use Rattle.certificates.specs.Grammar.{is_header, verdict_in, is_end, body_before, body_of, fault_at, plan_fault, row_at, IsPlanOf}
+use Rattle.certificates.specs.Grammar.{is_header, verdict_in, is_end, body_before, body_of, fault_at, plan_fault, row_at, amount_at, IsPlanOf}
 use Rattle.std.specs.Option.{option_to_list}
-use Rattle.std.specs.List.{All, list_any}
+use Rattle.std.specs.List.{All, filter_map, enumerate_from, list_any}
 
 -- ---- the whole
 
@@ -74,6 +76,17 @@ with_record o claims r =
     else if is_kind r (codes "ray") then record claims { ray = with_amount o.flows claims.ray r }
     else if is_kind r (codes "turned") then record claims { turned = whole_in (field_of r 1) }
     else record claims { entries = claims.entries ++ option_to_list (entry_in r) }
+
+-- the amount of a flow with this number in a period, where it has an arc there
+abbrev pub amount_in : List (Option Ratio) → Scheme → ℕ → ℕ → FlowKind → Option Ratio
+amount_in given scheme period number kind =
+    if nat_lt (periods_of scheme.periods kind) period then None
+    else Some (amount_at given (place_with (length scheme.flows) period number))
+
+-- the amounts of the flows in a period
+abbrev pub period_amounts : List (Option Ratio) → Scheme → ℕ → List Ratio
+period_amounts given scheme period =
+    filter_map (λ (number, flow). amount_in given scheme period number flow.kind) (enumerate_from 0 scheme.flows)
 
 -- what was found at a record with this number: whether it is `end`, or the fault
 abbrev pub TakesRow : Result Bool Refused → Outline → Verdict → Claims → Claims → List (List ℕ) → ℕ → Type 0

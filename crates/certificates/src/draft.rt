@@ -7,21 +7,20 @@ ghost use Rattle.np_records.specs.Records.{field_of};
 ghost use Rattle.net_csv.specs.Fields.{place_in};
 ghost use Rattle.np_records.specs.Faults.{Reads, first_fault};
 ghost use Rattle.certificates.specs.Fields.{fraction_in, whole_in, overflow_in, entry_in, fields_fault, used_fault, period_fault};
-ghost use Rattle.certificates.specs.Claims.{claims_of, place_with};
+ghost use Rattle.certificates.specs.Claims.{claims_of};
 ghost use Rattle.certificates.specs.Faults.{once_fault, amount_fault, put_fault, pivot_fault, is_next, place_named, last_for, record_fault, is_complete};
 ghost use Rattle.certificates.specs.Grammar.{IsMadeOf, amount_of, flows_of, prices_of, ray_of, arc_of, passed_of, amount_at, staged_amounts, node_amounts};
 ghost use Rattle.std.specs.Option.{option_to_list};
-ghost use Rattle.certificates.specs.Reading.{IsOutline, HasPlaces, Puts, Takes, with_amount, with_record};
+ghost use Rattle.certificates.specs.Reading.{IsOutline, HasPlaces, Puts, Takes, amount_in, period_amounts, with_amount, with_record};
 
 use crate::fields::{
     entry, fields, fraction, is_given, is_kind, is_new, overflow, period, used_name, whole,
 };
-use crate::index::Index;
+use crate::index::{Index, periods_of};
 use crate::refused::{Code, Stop};
 use np_frac::{Frac, Memory};
-use np_model::{Entries, Entry, Fracs, Log, Overflow, Plan, Scheme, Verdict};
+use np_model::{Entries, Entry, FlowKind, Fracs, Log, Overflow, Plan, Scheme, Verdict};
 use np_records::{ByteRecord, NameTable, field};
-use period_expand::{Staged, expand_periods};
 use std::alloc::Global;
 use std::marker::Model;
 use std::vec;
@@ -134,27 +133,64 @@ fn no_fracs(alloc: Global) -> Fracs
     }
 }
 
-// The amount of a staged arc, 0 where none is given.
-fn amount_for(given: &[Option<Frac>], count: usize, arc: &Staged) -> Frac
-    requires { count < 2 ^ 32 }
-    ensures { result ≡ amount_at given.now (place_with count arc.now.period arc.now.flow) }
+// The amount at a place, 0 where none is given.
+fn amount_at(given: &[Option<Frac>], place: usize) -> Frac
+    ensures { result ≡ amount_at given.now place }
 {
-    let place = (arc.period as usize).saturating_sub(1) * count + arc.flow as usize;
     match given.get(place) {
         Some(amount) => amount.unwrap_or(Frac::whole(0)),
         None => Frac::whole(0),
     }
 }
 
+// The amount of a flow in a period, where it has an arc there.
+fn amount_in(
+    given: &[Option<Frac>],
+    scheme: &Scheme,
+    period: u32,
+    number: usize,
+    kind: &FlowKind,
+) -> Option<Frac>
+    requires first { 1 ≤ period }
+    requires last { period ≤ scheme.now.periods }
+    requires number { number < length scheme.now.flows }
+    ensures { result ≡ amount_in given.now scheme.now period number kind.now }
+{
+    if periods_of(scheme.periods, kind) < period {
+        return None;
+    }
+    let count = scheme.flows.as_slice().len();
+    let place = (period as usize - 1) * count + number;
+    Some(amount_at(given, place))
+}
+
+// Appends the amounts of the flows in a period.
+fn push_period(
+    items: &mut Vec<Frac>,
+    scheme: &Scheme,
+    given: &[Option<Frac>],
+    period: u32,
+) -> Result<(), Memory>
+    requires first { 1 ≤ period }
+    requires last { period ≤ scheme.now.periods }
+    ensures { OnOk result (items.new.items ≡ items.old.items ++ period_amounts given.now scheme.now period) }
+{
+    for (number, flow) in scheme.flows.as_slice().iter().enumerate() {
+        match amount_in(given, scheme, period, number, &flow.kind) {
+            Some(amount) => items.push(amount)?,
+            None => {}
+        }
+    }
+    Ok(())
+}
+
 // The amounts of the staged arcs.
 fn staged_amounts(alloc: Global, scheme: &Scheme, given: &[Option<Frac>]) -> Result<Fracs, Memory>
     ensures { IfOk result (λ amounts. amounts ≡ staged_amounts scheme.now given.now) }
 {
-    let count = scheme.flows.as_slice().len();
-    let expanded = expand_periods(alloc, scheme)?;
     let mut items = Vec::new(alloc);
-    for arc in expanded.staged.as_slice() {
-        items.push(amount_for(given, count, arc))?;
+    for before in 0..scheme.periods {
+        push_period(&mut items, scheme, given, before + 1)?;
     }
     Ok(Fracs { items })
 }

@@ -34,8 +34,8 @@ impl Model for Index {
     } };
 }
 
-// In how many of so many periods a flow has an arc.
-fn periods_of(periods: u32, kind: &FlowKind) -> u32
+/// In how many of so many periods a flow has an arc.
+pub(crate) fn periods_of(periods: u32, kind: &FlowKind) -> u32
     requires { 0 < periods }
     ensures { result ≡ periods_of periods kind.now }
 {

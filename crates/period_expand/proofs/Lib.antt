@@ -1,4 +1,4 @@
-mod Grows
+pub mod Grows
 mod Standing
 mod Sound
 mod Year

@@ -1,10 +1,12 @@
-use Rattle.std.proofs.Common.{◌≡◌, ◌∙◌, take, refl}
-use Rattle.std.proofs.lemmas.List.{take_all}
-use Rattle.np_model.specs.Schemes.{staged}
+use Rattle.period_expand.proofs.Grows.{periods_more}
+use Rattle.std.proofs.Common.{rules}
+use Rattle.certificates.specs.Reading.{period_amounts}
+use Rattle.certificates.proofs.PeriodAmounts.{staged-by-period}
 use Rattle.certificates.proofs.draft.staged_amounts.Goals as goal
 
+pub loop-before-preserved : goal.loop-before-preserved
+loop-before-preserved c =
+    periods_more (period_amounts c.args.given.now c.args.scheme.now) c.loop-before.before c.loop-before.items.items c.push_period.new.items.items c.loop-before.invariant c.in_ok-push_period.ensures
+
 pub returns : goal.returns
-returns c =
-    let whole : take c.loop-arc.arc-index c.as_slice-arc-items.result.now ≡ staged c.args.scheme.now =
-    take_all c.loop-arc.arc-index c.as_slice-arc-items.result.now c.loop-arc-test.false ∙ c.as_slice-arc-items.ensures ∙ c.in_ok-expanded.ensures.staged in
-    c.loop-arc.invariant ∙ rw (whole, c.as_slice-count.ensures) refl
+returns c = staged-by-period c.args.scheme.now c.args.given.now c.loop-before.before c.loop-before.items.items (search rules) c.loop-before.invariant

@@ -1,7 +1,7 @@
-use Rattle.std.proofs.Common.{◌≡◌, map, take}
-use Rattle.certificates.specs.Claims.{place_with}
-use Rattle.certificates.specs.Grammar.{amount_at}
+use Rattle.std.proofs.Common.{◌≡◌}
+use Rattle.std.specs.List.{flat_map, range_with_len}
+use Rattle.certificates.specs.Reading.{period_amounts}
 use Rattle.certificates.proofs.draft.staged_amounts.Given as goal
 
-abbrev pub invariant-loop-arc : goal.invariant-loop-arc
-invariant-loop-arc l = l.items.items ≡ map (λ arc. amount_at l.given (place_with l.count arc.period arc.flow)) (take l.arc-index l.arc-items)
+abbrev pub invariant-loop-before : goal.invariant-loop-before
+invariant-loop-before l = l.items.items ≡ flat_map (period_amounts l.given l.scheme) (range_with_len 1 l.before)
