@@ -1,11 +1,14 @@
-"""What `netplan check` answers, written a second time from docs/FORMATS.md in plain Python, for comparison by tests/differential.
+"""What `netplan` answers to `check` and `expand`, written a second time from docs/FORMATS.md in plain Python, for tests/differential.
 
-It knows nothing of the program: it reads records as lists of strings, and computes with Python's fractions. Network texts are taken
-to be right, and numbers to be small: it does not know when a sum passes 128 bits.
+It knows nothing of the program: it reads records as lists of strings, and computes with Python's fractions. It does not know when a sum
+passes 128 bits, so numbers are to be small.
 """
+import csv
+import io
 from fractions import Fraction
 
 LARGEST = 2**127 - 1
+DEFINING = {"node": 2, "supply": 4, "arc": 8, "hold": 7, "drain": 6, "feed": 6, "piece": 4, "end": 1}
 VERDICTS = ("optimal", "infeasible", "unbounded", "budget", "overflow")
 NEEDED = {"optimal": "cost", "infeasible": "gap", "budget": "arc", "overflow": "past"}
 FIELDS = {"cost": 2, "gap": 2, "arc": 2, "past": 6, "flow": 4, "price": 4, "ray": 4, "turned": 2, "pivot": 5, "end": 1}
@@ -13,7 +16,7 @@ OPERATIONS = ("plus", "minus", "times", "over")
 
 
 class Network:
-    """A network text that is right, by its records."""
+    """A network text without a fault, by its records."""
 
     def __init__(self, records):
         self.periods = int(records[1][1])
@@ -73,16 +76,156 @@ def lesser(amount, end):
     return amount if end is None else min(amount, end)
 
 
+# ---- the first fault of a network text
+
+
+def is_digits(text, most):
+    return 1 <= len(text) <= most and all(c in "0123456789" for c in text)
+
+
+def is_amount(text):
+    text = text.removeprefix("-")
+    if "/" in text:
+        upper, lower = text.split("/", 1)
+        return is_digits(upper, 18) and is_digits(lower, 19) and int(lower) != 0
+    whole, *decimals = text.split(".", 1)
+    return is_digits(whole, 18) and all(is_digits(d, 9) for d in decimals)
+
+
+def is_name(text):
+    return 1 <= len(text.encode()) <= 64 and all(0x21 <= byte <= 0x7E for byte in text.encode())
+
+
+def first(*tests):
+    """The word of the first test that fails. A test is a function, since a later one may need what an earlier one makes sure of."""
+    return next((word for is_right, word in tests if not is_right()), None)
+
+
+class NetworkReader:
+    """The records of a network text, one after the other."""
+
+    def __init__(self, periods):
+        self.periods, self.nodes, self.flows, self.arcs = periods, set(), {}, 0
+
+    def definition(self, names, name):
+        return [(lambda: is_name(name), "BadName"), (lambda: name not in names, "Repeated")]
+
+    def count(self, flow):
+        """One more arc for each period of a flow, for itself or for a piece."""
+        self.arcs += flow.last_period(self.periods)
+        return "TooMany" if self.arcs > 100_000 else None
+
+    def node(self, name):
+        fault = first(*self.definition(self.nodes, name))
+        self.nodes.add(name)
+        return fault or ("TooMany" if len(self.nodes) * self.periods > 20_000 else None)
+
+    def supply(self, name, period, amount):
+        return first(
+            (lambda: name in self.nodes, "NoSuchName"),
+            (lambda: period == "*" or is_whole(period) and 1 <= int(period) <= self.periods, "BadPeriod"),
+            (lambda: is_amount(amount), "BadNumber"),
+        )
+
+    def flow(self, record):
+        kind, name, *rest = record
+        gain = rest[-4] if kind in ("arc", "hold") else "1"
+        lower, upper, cost = rest[-3:]
+        ends = rest[:2] if kind == "arc" else rest[:1]
+        fault = first(
+            *self.definition(self.flows, name),
+            *[(lambda end=end: end in self.nodes, "NoSuchName") for end in ends],
+            (lambda: is_amount(gain), "BadNumber"),
+            (lambda: Fraction(gain) > 0, "BadGain"),
+            (lambda: is_amount(lower), "BadNumber"),
+            (lambda: upper == "inf" or is_amount(upper), "BadNumber"),
+            (lambda: is_amount(cost), "BadNumber"),
+            (lambda: len(set(ends)) == len(ends), "SameEnds"),
+            (lambda: upper == "inf" or Fraction(lower) <= Fraction(upper), "BadBounds"),
+        )
+        if fault:
+            return fault
+        self.flows[name] = Flow(record)
+        return self.count(self.flows[name])
+
+    def piece(self, name, width, slope):
+        fault = first(
+            (lambda: name in self.flows, "NoSuchName"),
+            (lambda: width == "inf" or is_amount(width), "BadNumber"),
+            (lambda: is_amount(slope), "BadNumber"),
+            (lambda: self.flows[name].last_end() is not None, "PieceAfterInfinite"),
+            (lambda: width == "inf" or Fraction(width) > 0, "BadBounds"),
+            (lambda: Fraction(slope) >= self.flows[name].segments[-1][2], "NotConvex"),
+        )
+        if fault:
+            return fault
+        self.flows[name].add_piece(width, slope)
+        return self.count(self.flows[name])
+
+    def fault(self, record):
+        word, *fields = record
+        if word not in DEFINING:
+            return "Unknown"
+        if len(record) != DEFINING[word]:
+            return "FieldCount"
+        if word == "end":
+            return None
+        return {"node": self.node, "supply": self.supply, "piece": self.piece}.get(word, lambda *_: self.flow(record))(*fields)
+
+
+def network_fault(records, alone):
+    """The number of the record with the first fault of a network text, and its word; and how many records it has up to its `end`."""
+    head = [
+        (lambda: len(records) > 0, (1, "NoEnd")),
+        (lambda: records[0] == ["netplan", "1"], (1, "Header")),
+        (lambda: len(records) > 1, (2, "NoEnd")),
+        (lambda: records[1][0] == "periods", (2, "Header")),
+        (lambda: len(records[1]) == 2, (2, "FieldCount")),
+        (lambda: is_whole(records[1][1]) and 1 <= int(records[1][1]) <= 20_000, (2, "BadPeriod")),
+    ]
+    fault = first(*head)
+    if fault:
+        return fault, 0
+    reader = NetworkReader(int(records[1][1]))
+    for place, record in enumerate(records[2:], 3):
+        word = reader.fault(record)
+        if word:
+            return (place, word), 0
+        if record[0] == "end":
+            return ((place + 1, "AfterEnd") if alone and place < len(records) else None), place
+    return (len(records) + 1, "NoEnd"), 0
+
+
+# ---- the expanded network
+
+
+def expanded(network):
+    """The records of the expanded network."""
+    count = len(network.nodes)
+    number = {(t, n): (t - 1) * count + i for t in range(1, network.periods + 1) for i, n in enumerate(network.nodes)}
+    nodes = [["node", v, n, t, network.supply[t, n]] for (t, n), v in number.items()]
+    arcs = []
+    for t, flow in network.staged():
+        tail = "-" if flow.tail is None else number[t, flow.tail]
+        head = "-" if flow.head is None else number[t + 1 if flow.kind == "hold" else t, flow.head]
+        ends = {"drain": [tail, "-", "-"], "feed": ["-", head, "-"]}.get(flow.kind, [tail, head, flow.gain])
+        for k, (start, end, slope) in enumerate(flow.segments):
+            lower = flow.lower if k == 0 else 0
+            upper = "inf" if end is None else end if k == 0 else end - start
+            arcs.append(["arc", len(arcs), flow.name, t, k] + ends + [lower, upper, slope])
+    return [["netplan-net", 1], ["size", len(nodes), len(arcs)]] + nodes + arcs + [["end"]]
+
+
 # ---- the first fault of a plan text
 
 
 def is_whole(text):
-    return 1 <= len(text) <= 9 and all(c in "0123456789" for c in text)
+    return is_digits(text, 9)
 
 
 def is_fraction(text):
     parts = text.removeprefix("-").split("/")
-    right = [1 <= len(p) <= 39 and all(c in "0123456789" for c in p) and int(p) <= LARGEST for p in parts]
+    right = [is_digits(p, 39) and int(p) <= LARGEST for p in parts]
     return len(parts) <= 2 and all(right) and (len(parts) == 1 or int(parts[1]) != 0)
 
 
@@ -205,13 +348,13 @@ class Walk:
         balance = self.balances(word)
         for (t, node), amount in wanted.items():
             if balance[t, node] != amount:
-                yield f"rejected,{clause},{node},{t}"
+                yield ["rejected", clause, node, t]
 
     def bound(self):
         for t, flow in self.staged:
             amount, end = self.plan.of("flow", flow.name, t), flow.last_end()
             if amount < flow.lower or end is not None and end < amount:
-                yield f"rejected,bound,{flow.name},{t}"
+                yield ["rejected", "bound", flow.name, t]
 
     def reduced_costs(self):
         for t, flow in self.staged:
@@ -219,18 +362,18 @@ class Walk:
             left = [s for start, stop, s in flow.segments if start < amount and (stop is None or amount <= stop)]
             right = [s for start, stop, s in flow.segments if start <= amount and (stop is None or amount < stop)]
             if flow.lower < amount and self.reduced(t, flow, left[0]) > 0:
-                yield f"rejected,reduced,{flow.name},{t}"
+                yield ["rejected", "reduced", flow.name, t]
             if (end is None or amount < end) and self.reduced(t, flow, right[0]) < 0:
-                yield f"rejected,reduced,{flow.name},{t}"
+                yield ["rejected", "reduced", flow.name, t]
 
     def cost(self):
         if sum(f.cost_of(self.plan.of("flow", f.name, t)) for t, f in self.staged) != Fraction(self.plan.single["cost"]):
-            yield "rejected,cost"
+            yield ["rejected", "cost"]
 
     def upper(self):
         for t, flow in self.staged:
             if self.reduced(t, flow, 0) < 0 and flow.last_end() is None:
-                yield f"rejected,upper,{flow.name},{t}"
+                yield ["rejected", "upper", flow.name, t]
 
     def gap(self):
         gap = sum(self.plan.of("price", node, t) * amount for (t, node), amount in self.network.supply.items())
@@ -238,19 +381,19 @@ class Walk:
             reduced = self.reduced(t, flow, 0)
             gap += reduced * (flow.lower if reduced > 0 else flow.last_end() if reduced < 0 else 0)
         if gap <= 0 or gap != Fraction(self.plan.single["gap"]):
-            yield "rejected,gap"
+            yield ["rejected", "gap"]
 
     def ray(self):
         for t, flow in self.staged:
             amount = self.plan.of("ray", flow.name, t)
             if amount < 0:
-                yield f"rejected,ray-sign,{flow.name},{t}"
+                yield ["rejected", "ray-sign", flow.name, t]
             if amount > 0 and flow.last_end() is not None:
-                yield f"rejected,ray-upper,{flow.name},{t}"
+                yield ["rejected", "ray-upper", flow.name, t]
 
     def ray_cost(self):
         if sum(f.segments[-1][2] * self.plan.of("ray", f.name, t) for t, f in self.staged) >= 0:
-            yield "rejected,ray-cost"
+            yield ["rejected", "ray-cost"]
 
     def clauses(self):
         supply = self.network.supply
@@ -259,7 +402,7 @@ class Walk:
             "optimal": feasible + [self.reduced_costs(), self.cost()],
             "infeasible": [self.upper(), self.gap()],
             "unbounded": feasible + [self.ray(), self.balance("ray", "ray-balance", dict.fromkeys(supply, 0)), self.ray_cost()],
-        }.get(self.plan.verdict, [iter(["rejected,uncertified"])])
+        }.get(self.plan.verdict, [iter([["rejected", "uncertified"]])])
 
     def line(self):
         """The line that the checker prints."""
@@ -267,14 +410,30 @@ class Walk:
             for rejected in clause:
                 return rejected
         single = self.plan.single.get(NEEDED.get(self.plan.verdict))
-        return ",".join(["accepted", self.plan.verdict] + ([str(Fraction(single))] if single is not None else []))
+        return ["accepted", self.plan.verdict] + ([Fraction(single)] if single is not None else [])
 
 
-def answer(network_records, plan_records):
+def text_of(records, line_end="\n"):
+    """The records as csv writes them."""
+    text = io.StringIO()
+    csv.writer(text, lineterminator=line_end).writerows(records)
+    return text.getvalue()
+
+
+def refused(fault):
+    return 5, text_of([["netplan-refused", 1], ["fault", *fault], ["end"]])
+
+
+def answer(command, records):
     """The status, and the text."""
-    network = Network(network_records)
-    fault = plan_fault(network, plan_records, len(network_records))
-    if fault is not None:
-        return 5, f"netplan-refused,1\nfault,{fault[0]},{fault[1]}\nend\n"
-    line = Walk(network, Plan(plan_records)).line()
-    return (0 if line.startswith("accepted") else 10), f"netplan-check,1\n{line}\nend\n"
+    fault, count = network_fault(records, command == "expand")
+    if fault:
+        return refused(fault)
+    network = Network(records[:count])
+    if command == "expand":
+        return 0, text_of(expanded(network))
+    fault = plan_fault(network, records[count:], count)
+    if fault:
+        return refused(fault)
+    line = Walk(network, Plan(records[count:])).line()
+    return (0 if line[0] == "accepted" else 10), text_of([["netplan-check", 1], line, ["end"]])
