@@ -1,10 +1,12 @@
 -- The first fault of the records of a plan text.
-use Rattle.std.specs.Prelude.{◌≡◌, ℕ, zero, suc, ◌+◌, ◌<◌, ◌≤◌, Option, Some, None, option_map, List, length}
+use Rattle.std.specs.Prelude.{◌≡◌, ℕ, zero, suc, ◌+◌, ◌<◌, ◌≤◌, nat_lt, true, Option, Some, None, option_map, List, ◌∷◌, length}
 use Rattle.std.specs.List.{range_with_len}
 use Rattle.std.proofs.Common.{refl, arith}
+use Rattle.std.proofs.lemmas.Bool.Decides.{nat_tests}
 use Rattle.certificates.specs.declared.refused.Code.{Code}
+use Rattle.certificates.specs.declared.refused.Code.TheVariants as code
 use Rattle.certificates.specs.Claims.{Outline, found}
-use Rattle.certificates.specs.Grammar.{fault_at, plan_fault}
+use Rattle.certificates.specs.Grammar.{is_header, verdict_in, fault_at, plan_fault}
 
 found-range : {Y : Type 0} (f : ℕ → Option Y) (from n k : ℕ) (y : Y) → k < n → ((i : ℕ) → i < k → f (from + i) ≡ None) → f (from + k) ≡ Some y → found f (range_with_len from n) ≡ Some y
 found-range f from zero k y h none here = absurd (omega arith)
@@ -35,3 +37,14 @@ pub no-fault : (skip : ℕ) (o : Outline) (rows : List (List (List ℕ))) → ((
 no-fault skip o rows none =
     found-nowhere (λ place. option_map (λ c. (skip + place + 1, c)) (fault_at o rows place)) 0 (length rows + 1)
     (λ i l. let z : 0 + i ≡ i = omega arith in rw (z, none i (omega arith)) refl)
+
+-- the second record gives no verdict
+pub verdict-refused : (skip : ℕ) (o : Outline) (rows : List (List (List ℕ))) (a b : List (List ℕ)) (left after : List (List (List ℕ))) → rows ≡ a ∷ left → left ≡ b ∷ after
+    → is_header a ≡ true → verdict_in b ≡ None → plan_fault skip o rows ≡ Some (skip + 2, code.Header)
+verdict-refused skip o rows a b left after first second header none =
+    let all : rows ≡ a ∷ b ∷ after = rw second at first in
+    let two : nat_lt 1 (length (a ∷ b ∷ after)) ≡ true = grind (arith, nat_tests) in
+    let one : nat_lt 0 (length (a ∷ b ∷ after)) ≡ true = grind (arith, nat_tests) in
+    let before : (i : ℕ) → i < 1 → fault_at o (a ∷ b ∷ after) i ≡ None = λ i h. let z : i ≡ 0 = omega arith in rw (z, one, header) refl in
+    let here : fault_at o (a ∷ b ∷ after) 1 ≡ Some code.Header = rw (two, none) refl in
+    rw all (refuses-at skip o (a ∷ b ∷ after) 1 (skip + 2) code.Header (omega arith) before here (omega arith))

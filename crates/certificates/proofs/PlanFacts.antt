@@ -22,7 +22,7 @@ use Rattle.np_model.specs.Fits.{IsNumber, PlaceFits, LogFits, FitsAs, PlanFits}
 use Rattle.np_model.specs.Schemes.{staged}
 use Rattle.net_csv.specs.Fields.{is_number}
 use Rattle.net_csv.proofs.FieldFacts.{number-reads}
-use Rattle.certificates.specs.Words.{mark_of, row_of, check_row_of}
+use Rattle.certificates.specs.Words.{mark_word, mark_of, row_of, check_row_of}
 use Rattle.certificates.specs.Fields.{whole_in, place_in_row, past_in, overflow_in, entry_in}
 use Rattle.certificates.specs.Claims.{claims_of, outline_of, of_kind, found}
 use Rattle.certificates.specs.Faults.{is_complete}
@@ -102,9 +102,9 @@ overflow-has r =
     (λ place fits. map-has (λ past. ⊤) HasPlace (past_in r) _ (any-has (past_in r)) (λ past _. fits)))
 
 mark-has : (bs : List ℕ) → IfSome (mark_of bs) (λ m. m ≢ mark.Basic)
-mark-has bs = elim (cases_Bool (bytes_eq bs (codes "lower"))) [
+mark-has bs = elim (cases_Bool (bytes_eq bs (mark_word mark.Lower))) [
   | inl t ↦ rw t (λ e. cc e)
-  | inr f ↦ elim (cases_Bool (bytes_eq bs (codes "upper"))) [
+  | inr f ↦ elim (cases_Bool (bytes_eq bs (mark_word mark.Upper))) [
     | inl t ↦ rw (f, t) (λ e. cc e)
     | inr g ↦ rw (f, g) tt
   ]

@@ -13,7 +13,8 @@ use Rattle.certificates.specs.Claims.{Outline, Claims, outline_of, claims_of}
 use Rattle.certificates.specs.Faults.{is_complete}
 use Rattle.certificates.specs.Grammar.{plan_fault, body_of, amount_of, flows_of, prices_of, ray_of, arc_of, passed_of, IsMadeOf, IsPlanOf}
 use Rattle.certificates.specs.Reading.{IsWholeRead}
-use Rattle.certificates.specs.Writing.{verdict_word, claim_rows, shown_rows, log_rows, inner_rows, plan_rows, printed_parts, told, HasFractions}
+use Rattle.certificates.specs.Words.{verdict_word}
+use Rattle.certificates.specs.Writing.{claim_rows, shown_rows, log_rows, inner_rows, plan_rows, printed_parts, told, HasFractions}
 use Rattle.certificates.proofs.Found.{amounts-none}
 use Rattle.certificates.proofs.OutlineFacts.{outline-is}
 use Rattle.certificates.proofs.WrittenWords.{verdict-back}

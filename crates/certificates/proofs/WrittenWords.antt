@@ -29,7 +29,8 @@ use Rattle.net_csv.specs.Fields.{is_number}
 use Rattle.net_csv.proofs.FieldFacts.{number-is}
 use Rattle.certificates.specs.Words.{verdict_of, mark_of, op_of, row_of, check_row_of}
 use Rattle.certificates.specs.Fields.{fraction_in, whole_in, place_in_row, overflow_in, entry_in}
-use Rattle.certificates.specs.Writing.{verdict_word, mark_word, op_word, row_word, check_row_word, place_word, past_row, pivot_row}
+use Rattle.certificates.specs.Words.{verdict_word, mark_word, op_word, row_word, check_row_word}
+use Rattle.certificates.specs.Writing.{place_word, past_row, pivot_row}
 use Rattle.certificates.proofs.FieldFacts.{fraction-answer, whole-some}
 
 -- ---- numbers

@@ -6,7 +6,7 @@ use Rattle.np_frac.specs.declared.frac.Op.TheVariants.{Plus, Minus, Times, Over}
 use Rattle.np_model.specs.declared.plan.Verdict.{Verdict}
 use Rattle.np_model.specs.declared.plan.Verdict.TheVariants.{Optimal, Infeasible, Unbounded, Budget, Overflow}
 use Rattle.np_model.specs.declared.plan.Mark.{Mark}
-use Rattle.np_model.specs.declared.plan.Mark.TheVariants.{Lower, Upper}
+use Rattle.np_model.specs.declared.plan.Mark.TheVariants.{Lower, Upper, Basic}
 use Rattle.np_model.specs.declared.plan.Row.{Row}
 use Rattle.np_model.specs.declared.plan.Row.TheVariants.{A1, A2, A3, A4, A5, A6, A7, A8}
 use Rattle.np_model.specs.declared.plan.CheckRow.{CheckRow}
@@ -27,49 +27,63 @@ code_word Missing = codes "Missing"
 code_word NoEnd = codes "NoEnd"
 code_word AfterEnd = codes "AfterEnd"
 
--- what the first of these words that is the field stands for
-abbrev pub word_in : {X : Type 0} → List (List ℕ × X) → List ℕ → Option X
-word_in [] field = None
-word_in (word ∷ words) field = if bytes_eq field word.0 then Some word.1 else word_in words field
+-- ---- the words, and what they stand for
+
+unfoldable pub verdict_word : Verdict → List ℕ
+verdict_word Optimal = codes "optimal"
+verdict_word Infeasible = codes "infeasible"
+verdict_word Unbounded = codes "unbounded"
+verdict_word Budget = codes "budget"
+verdict_word Overflow = codes "overflow"
+
+-- where an arc comes to rest; in the basis none does
+unfoldable pub mark_word : Mark → List ℕ
+mark_word Lower = codes "lower"
+mark_word Upper = codes "upper"
+mark_word Basic = codes "basic"
+
+unfoldable pub op_word : Op → List ℕ
+op_word Plus = codes "plus"
+op_word Minus = codes "minus"
+op_word Times = codes "times"
+op_word Over = codes "over"
+
+unfoldable pub row_word : Row → List ℕ
+row_word A1 = codes "A1"
+row_word A2 = codes "A2"
+row_word A3 = codes "A3"
+row_word A4 = codes "A4"
+row_word A5 = codes "A5"
+row_word A6 = codes "A6"
+row_word A7 = codes "A7"
+row_word A8 = codes "A8"
+
+unfoldable pub check_row_word : CheckRow → List ℕ
+check_row_word C0 = codes "C0"
+check_row_word C1 = codes "C1"
+check_row_word C2 = codes "C2"
+check_row_word C3 = codes "C3"
+check_row_word C4 = codes "C4"
+check_row_word C5 = codes "C5"
+check_row_word C6 = codes "C6"
+
+-- the first of these whose word is the field
+abbrev pub with_word : {X : Type 0} → (X → List ℕ) → List X → List ℕ → Option X
+with_word word [] field = None
+with_word word (x ∷ xs) field = if bytes_eq field (word x) then Some x else with_word word xs field
 
 abbrev pub verdict_of : List ℕ → Option Verdict
-verdict_of field =
-    word_in (
-    (codes "optimal", Optimal)
-    ∷ (codes "infeasible", Infeasible)
-    ∷ (codes "unbounded", Unbounded)
-    ∷ (codes "budget", Budget)
-    ∷ (codes "overflow", Overflow)
-    ∷ []) field
+verdict_of field = with_word verdict_word (Optimal ∷ Infeasible ∷ Unbounded ∷ Budget ∷ Overflow ∷ []) field
 
 -- where an arc comes to rest
 abbrev pub mark_of : List ℕ → Option Mark
-mark_of field = word_in ((codes "lower", Lower) ∷ (codes "upper", Upper) ∷ []) field
+mark_of field = with_word mark_word (Lower ∷ Upper ∷ []) field
 
 abbrev pub op_of : List ℕ → Option Op
-op_of field = word_in ((codes "plus", Plus) ∷ (codes "minus", Minus) ∷ (codes "times", Times) ∷ (codes "over", Over) ∷ []) field
+op_of field = with_word op_word (Plus ∷ Minus ∷ Times ∷ Over ∷ []) field
 
 abbrev pub row_of : List ℕ → Option Row
-row_of field =
-    word_in (
-    (codes "A1", A1)
-    ∷ (codes "A2", A2)
-    ∷ (codes "A3", A3)
-    ∷ (codes "A4", A4)
-    ∷ (codes "A5", A5)
-    ∷ (codes "A6", A6)
-    ∷ (codes "A7", A7)
-    ∷ (codes "A8", A8)
-    ∷ []) field
+row_of field = with_word row_word (A1 ∷ A2 ∷ A3 ∷ A4 ∷ A5 ∷ A6 ∷ A7 ∷ A8 ∷ []) field
 
 abbrev pub check_row_of : List ℕ → Option CheckRow
-check_row_of field =
-    word_in (
-    (codes "C0", C0)
-    ∷ (codes "C1", C1)
-    ∷ (codes "C2", C2)
-    ∷ (codes "C3", C3)
-    ∷ (codes "C4", C4)
-    ∷ (codes "C5", C5)
-    ∷ (codes "C6", C6)
-    ∷ []) field
+check_row_of field = with_word check_row_word (C0 ∷ C1 ∷ C2 ∷ C3 ∷ C4 ∷ C5 ∷ C6 ∷ []) field

@@ -5,17 +5,9 @@ use Rattle.std.specs.Option.{option_to_list}
 use Rattle.np_frac.specs.Ratio.{Ratio}
 use Rattle.np_frac.specs.Lowest.{Fits}
 use Rattle.np_frac.specs.Text.{printed}
-use Rattle.np_frac.specs.declared.frac.Op.{Op}
-use Rattle.np_frac.specs.declared.frac.Op.TheVariants as op
 use Rattle.np_model.specs.declared.scheme.Scheme.{Scheme}
 use Rattle.np_model.specs.declared.plan.Verdict.{Verdict}
 use Rattle.np_model.specs.declared.plan.Verdict.TheVariants as verdict
-use Rattle.np_model.specs.declared.plan.Mark.{Mark}
-use Rattle.np_model.specs.declared.plan.Mark.TheVariants as mark
-use Rattle.np_model.specs.declared.plan.Row.{Row}
-use Rattle.np_model.specs.declared.plan.Row.TheVariants as row
-use Rattle.np_model.specs.declared.plan.CheckRow.{CheckRow}
-use Rattle.np_model.specs.declared.plan.CheckRow.TheVariants as check
 use Rattle.np_model.specs.declared.plan.Place.{Place}
 use Rattle.np_model.specs.declared.plan.Place.TheVariants as place
 use Rattle.np_model.specs.declared.plan.Overflow.{Overflow}
@@ -25,55 +17,16 @@ use Rattle.np_model.specs.declared.plan.Plan.{Plan}
 use Rattle.np_model.specs.Stages.{Stage}
 use Rattle.np_model.specs.Schemes.{staged}
 use Rattle.net_csv.specs.Writing.{name_at}
+use Rattle.certificates.specs.Words.{verdict_word, mark_word, op_word, row_word, check_row_word}
 use Rattle.certificates.specs.Claims.{flow_names}
 
--- ---- words
-
-unfoldable pub verdict_word : Verdict → List ℕ
-verdict_word verdict.Optimal = codes "optimal"
-verdict_word verdict.Infeasible = codes "infeasible"
-verdict_word verdict.Unbounded = codes "unbounded"
-verdict_word verdict.Budget = codes "budget"
-verdict_word verdict.Overflow = codes "overflow"
-
--- where an arc comes to rest; in the basis none does
-unfoldable pub mark_word : Mark → List ℕ
-mark_word mark.Lower = codes "lower"
-mark_word mark.Upper = codes "upper"
-mark_word mark.Basic = codes "basic"
-
-unfoldable pub op_word : Op → List ℕ
-op_word op.Plus = codes "plus"
-op_word op.Minus = codes "minus"
-op_word op.Times = codes "times"
-op_word op.Over = codes "over"
-
-unfoldable pub row_word : Row → List ℕ
-row_word row.A1 = codes "A1"
-row_word row.A2 = codes "A2"
-row_word row.A3 = codes "A3"
-row_word row.A4 = codes "A4"
-row_word row.A5 = codes "A5"
-row_word row.A6 = codes "A6"
-row_word row.A7 = codes "A7"
-row_word row.A8 = codes "A8"
-
-unfoldable pub check_row_word : CheckRow → List ℕ
-check_row_word check.C0 = codes "C0"
-check_row_word check.C1 = codes "C1"
-check_row_word check.C2 = codes "C2"
-check_row_word check.C3 = codes "C3"
-check_row_word check.C4 = codes "C4"
-check_row_word check.C5 = codes "C5"
-check_row_word check.C6 = codes "C6"
+-- ---- records
 
 abbrev pub place_word : Place → List ℕ
 place_word (place.Node v) = decimal v
 place_word (place.Arc a) = decimal a
 place_word place.Turn = codes "turn"
 place_word (place.Check row) = check_row_word row
-
--- ---- records
 
 abbrev pub head_rows : Verdict → List (List (List ℕ))
 head_rows verdict = (codes "netplan-plan" ∷ codes "1" ∷ []) ∷ (codes "verdict" ∷ verdict_word verdict ∷ []) ∷ []

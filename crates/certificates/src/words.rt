@@ -1,13 +1,13 @@
 //! The words of plan texts.
 
 ghost use Rattle.std.specs.Prelude.{◌≡◌};
-ghost use Rattle.certificates.specs.Words.{verdict_of, mark_of, op_of, row_of, check_row_of};
-ghost use Rattle.certificates.specs.Writing.{verdict_word, mark_word, op_word, row_word, check_row_word};
+ghost use Rattle.certificates.specs.Words.{verdict_word, mark_word, op_word, row_word, check_row_word, verdict_of, mark_of, op_of, row_of, check_row_of};
 
 use np_frac::Op;
 use np_model::{CheckRow, Mark, Row, Verdict};
 
 /// The verdict with this word.
+#[tactic(auto, unfolding(crate::specs::Words::verdict_word))]
 pub(crate) fn verdict_of(bytes: &[u8]) -> Option<Verdict>
     ensures { result ≡ verdict_of bytes.now }
 {
@@ -27,6 +27,7 @@ pub(crate) fn verdict_of(bytes: &[u8]) -> Option<Verdict>
 }
 
 /// The bound with this word at which an arc comes to rest.
+#[tactic(auto, unfolding(crate::specs::Words::mark_word))]
 pub(crate) fn mark_of(bytes: &[u8]) -> Option<Mark>
     ensures { result ≡ mark_of bytes.now }
 {
@@ -40,6 +41,7 @@ pub(crate) fn mark_of(bytes: &[u8]) -> Option<Mark>
 }
 
 /// The operation with this word.
+#[tactic(auto, unfolding(crate::specs::Words::op_word))]
 pub(crate) fn op_of(bytes: &[u8]) -> Option<Op>
     ensures { result ≡ op_of bytes.now }
 {
@@ -57,6 +59,7 @@ pub(crate) fn op_of(bytes: &[u8]) -> Option<Op>
 }
 
 /// The row of the solver's arithmetic with this name.
+#[tactic(auto, unfolding(crate::specs::Words::row_word))]
 pub(crate) fn row_of(bytes: &[u8]) -> Option<Row>
     ensures { result ≡ row_of bytes.now }
 {
@@ -82,6 +85,7 @@ pub(crate) fn row_of(bytes: &[u8]) -> Option<Row>
 }
 
 /// The row of the checker's arithmetic with this name.
+#[tactic(auto, unfolding(crate::specs::Words::check_row_word))]
 pub(crate) fn check_row_of(bytes: &[u8]) -> Option<CheckRow>
     ensures { result ≡ check_row_of bytes.now }
 {
@@ -105,7 +109,7 @@ pub(crate) fn check_row_of(bytes: &[u8]) -> Option<CheckRow>
 }
 
 /// The word of a verdict.
-#[tactic(auto, unfolding(crate::specs::Writing::verdict_word))]
+#[tactic(auto, unfolding(crate::specs::Words::verdict_word))]
 pub(crate) fn verdict_word(verdict: Verdict) -> &'static [u8]
     ensures { result.now ≡ verdict_word verdict }
 {
@@ -119,7 +123,7 @@ pub(crate) fn verdict_word(verdict: Verdict) -> &'static [u8]
 }
 
 /// The word of a bound at which an arc comes to rest, and of the basis.
-#[tactic(auto, unfolding(crate::specs::Writing::mark_word))]
+#[tactic(auto, unfolding(crate::specs::Words::mark_word))]
 pub(crate) fn mark_word(mark: Mark) -> &'static [u8]
     ensures { result.now ≡ mark_word mark }
 {
@@ -131,7 +135,7 @@ pub(crate) fn mark_word(mark: Mark) -> &'static [u8]
 }
 
 /// The word of an operation.
-#[tactic(auto, unfolding(crate::specs::Writing::op_word))]
+#[tactic(auto, unfolding(crate::specs::Words::op_word))]
 pub fn op_word(op: Op) -> &'static [u8]
     ensures { result.now ≡ op_word op }
 {
@@ -144,7 +148,7 @@ pub fn op_word(op: Op) -> &'static [u8]
 }
 
 /// The name of a row of the solver's arithmetic.
-#[tactic(auto, unfolding(crate::specs::Writing::row_word))]
+#[tactic(auto, unfolding(crate::specs::Words::row_word))]
 pub(crate) fn row_word(row: Row) -> &'static [u8]
     ensures { result.now ≡ row_word row }
 {
@@ -161,7 +165,7 @@ pub(crate) fn row_word(row: Row) -> &'static [u8]
 }
 
 /// The name of a row of the checker's arithmetic.
-#[tactic(auto, unfolding(crate::specs::Writing::check_row_word))]
+#[tactic(auto, unfolding(crate::specs::Words::check_row_word))]
 pub fn check_row_word(row: CheckRow) -> &'static [u8]
     ensures { result.now ≡ check_row_word row }
 {
