@@ -22,6 +22,7 @@ use Rattle.certificates.specs.Claims.{flow_names}
 
 -- ---- records
 
+-- where an operation passed: at a node, at an arc, at the turn to the second stage, or at a row of the checker
 abbrev pub place_word : Place → List ℕ
 place_word (place.Node v) = decimal v
 place_word (place.Arc a) = decimal a

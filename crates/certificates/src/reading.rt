@@ -177,6 +177,9 @@ fn read_whole(
 
 /// Reads the plan text that stands behind so many records: the plan, for a scheme.
 ///
+/// There are at least so many records, as behind a network text as many as `net_csv::read_scheme` answered
+/// (`net_csv::laws::records_are_there`), and fewer than 2^32 bytes.
+///
 /// Where the records are no plan text, their first fault is answered: the number of its record among all records of the
 /// bytes, from 1, and what is wrong there. Of the parts that the verdict does not use the plan has nothing. `Memory` comes
 /// where memory ran out. It takes time and memory in proportion to the text, and to the nodes and flows over all periods.

@@ -374,7 +374,12 @@ fn push_log(text: &mut Text, log: &Log, asked: bool) -> Result<(), Memory>
 ///
 /// Behind the verdict come its cost, its gap, the arc at which the budget ended or the operation that passed; then a
 /// flow for each staged arc, a price for each node in each period, and a ray for each staged arc, also where they are 0;
-/// and then what the log tells. `Memory` comes where memory ran out.
+/// and then what the log tells. Read again, behind the text of the scheme or any other records, it gives these parts.
+///
+/// The plan has to fit the scheme, as each plan does that `read_plan` answers: what its verdict prints is there, `flows`
+/// and `ray` by staged arc, `prices` by node and period as the scheme's supply, and its numbers have at most 9 digits, its
+/// log at most a million pivots. `Memory` comes where memory ran out. It takes time and memory in proportion to the text
+/// and to the staged arcs with their bands.
 pub fn plan_text(alloc: Global, scheme: &Scheme, plan: &Plan, log: bool) -> Result<Vec<u8>, Memory>
     requires fits { PlanFits scheme.now plan.now }
     ensures text { IfOk result (λ bytes. bytes.items ≡ records_text (plan_rows scheme.now plan.now log)) }
