@@ -4,10 +4,11 @@ use Rattle.std.specs.Option.{ok_or}
 use Rattle.std.specs.Cmp.Derive.{both_true}
 use Rattle.std.proofs.Math.Nat.{mul-div_cancel_left}
 use Rattle.np_frac.specs.Ratio.{Ratio, negated, inverse, ◌+ᵣ◌, ◌-ᵣ◌, ◌*ᵣ◌}
-use Rattle.np_frac.specs.Coprime.{scales}
+use Rattle.np_frac.specs.Steps.Coprime.{scales}
 use Rattle.np_frac.specs.Lcm.{lcm}
-use Rattle.np_frac.specs.Lowest.{Fits, HasSum, IsFound, IsSumFound}
-use Rattle.np_frac.specs.Exact.{is_part, fits, fits_sum, plus_of, minus_of, times_of, over_of}
+use Rattle.np_frac.specs.Fits.{Fits, is_part, fits}
+use Rattle.np_frac.specs.Steps.Found.{HasSum, IsFound, IsSumFound}
+use Rattle.np_frac.specs.Exact.{fits_sum, plus_of, minus_of, times_of, over_of}
 use Rattle.np_frac.proofs.SumParts.{common_symm, sum-common, sum-left, sum-right, HasSum-parts}
 use Rattle.np_frac.specs.declared.frac.Past.{Past}
 use Rattle.np_frac.specs.declared.frac.Op.TheVariants.{Plus, Minus, Times, Over}

@@ -5,10 +5,10 @@
 ghost use Rattle.std.specs.Prelude.{◌≡◌, ◌≢◌, ℕ, ◌*◌, ◌<◌, ◌^◌, pos, ℤ, unsigned_abs, ◌+ℤ◌, ◌*ℤ◌, ◌≤ℤ◌, ◌<ℤ◌, ◌↔◌, ◌⊎◌, IsTrue, List, All, Ok};
 ghost use Rattle.np_frac.specs.Ratio.{Ratio, zero_ratio, one_ratio, whole, negated, inverse, is_below, total, ◌+ᵣ◌, ◌-ᵣ◌, ◌*ᵣ◌, ◌≤ᵣ◌, ◌<ᵣ◌};
 ghost use Rattle.np_frac.specs.Lcm.{IsLcm, lcm};
-ghost use Rattle.np_frac.specs.Lowest.{Fits};
+ghost use Rattle.np_frac.specs.Fits.{Fits, fits};
 ghost use Rattle.np_frac.specs.Text.{printed, IsFraction, fraction_of};
 ghost use Rattle.np_frac.specs.Amount.{IsAmount, amount_of, is_amount, HasAmountText};
-ghost use Rattle.np_frac.specs.Exact.{fits, plus_of, minus_of, times_of, over_of};
+ghost use Rattle.np_frac.specs.Exact.{plus_of, minus_of, times_of, over_of};
 
 /// Two ratios are equal where their cross products are.
 pub fn equality()
