@@ -1,9 +1,8 @@
 -- What an exact operation answers fits a fraction.
 use Rattle.std.specs.Prelude.{◌≡◌, ℕ, ◌*◌, ◌<◌, ◌≤◌, ◌^◌, Bool, true, false, Ok, Err, ℤ, pos, ◌+ℤ◌, ◌*ℤ◌, unsigned_abs, if◌then◌else◌}
-use Rattle.std.proofs.Common.{arith, sym, subst, refl, ◌∙◌}
+use Rattle.std.proofs.Common.{arith, sym, subst, refl}
 use Rattle.std.proofs.Math.Nat.{mul-pos, mul-le-mul_left, le_of_mul-le-mul_right}
-use Rattle.np_frac.specs.Ratio.{Ratio, negated, inverse, ◌+ᵣ◌, ◌*ᵣ◌, sum_is, sum_cross}
-use Rattle.np_frac.specs.Lcm.{lcm}
+use Rattle.np_frac.specs.Ratio.{Ratio, negated, inverse, ◌+ᵣ◌, ◌*ᵣ◌, sum_cross}
 use Rattle.np_frac.specs.Fits.{Fits, fits}
 use Rattle.np_frac.specs.Exact.{fits_sum, plus_of, minus_of, times_of, over_of}
 use Rattle.np_frac.specs.Steps.Coprime.{lowest_is_least, scales}
