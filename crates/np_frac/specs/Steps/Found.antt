@@ -1,16 +1,8 @@
--- Parts of a fraction in lowest terms.
+-- What the steps of an operation find.
 use Rattle.std.specs.Prelude.{◌≡◌, ℕ, ◌*◌, ◌^◌, ◌<◌, ℤ, pos, ◌*ℤ◌, ◌+ℤ◌, unsigned_abs, Option, Some, None}
 use Rattle.np_frac.specs.Ratio.{Ratio, IsLowest, ◌+ᵣ◌}
 use Rattle.np_frac.specs.Lcm.{IsLcm}
-
--- each part is at most 2 ^ 127 - 1 in size
-pub record Fit (num : ℤ) (den : ℕ) : Type 0 where
-  pub num_fits : unsigned_abs num < 2 ^ 127
-  pub den_fits : den < 2 ^ 127
-
--- the ratio fits a fraction
-abbrev pub Fits : Ratio → Type 0
-Fits r = Fit r.num r.den
+use Rattle.np_frac.specs.Fits.{Fits}
 
 -- the parts of x over y are those of num over den, divided by their greatest common divisor
 pub record IsReduced (num : ℤ) (den : ℕ) (x : ℤ) (y : ℕ) : Type 0 where
@@ -38,7 +30,7 @@ pub record HasSum (p q : Ratio) : Type 0 where
   pub right_fits : unsigned_abs right < 2 ^ 127
   pub sum_fits : unsigned_abs (left +ℤ right) < 2 ^ 127
 
--- the answer is the sum, and None exactly where it passes
+-- the answer is the sum, and None exactly where it overflows
 abbrev pub IsSumFound : Option Ratio → Ratio → Ratio → Type 0
 IsSumFound (Some f) p q = HasSum p q × (f ≡ p +ᵣ q)
 IsSumFound None p q = ¬ (HasSum p q)

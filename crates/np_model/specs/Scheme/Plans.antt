@@ -1,31 +1,12 @@
 -- Plans of a scheme: one amount for each staged arc. (This project's own.)
-use Rattle.std.specs.Prelude.{ℕ, ◌+◌, ◌-◌, ◌*◌, ◌==◌, ◌&&◌, if◌then◌else◌, Bool, true, false, Option, Some, None, List, length}
-use Rattle.std.specs.List.{flat_map, filter_map, range_with_len, enumerate_from}
+use Rattle.std.specs.Prelude.{ℕ, ◌==◌, ◌&&◌, if◌then◌else◌, Option, Some, None, length, List}
+use Rattle.std.specs.List.{enumerate_from, flat_map, filter_map, range_with_len}
 use Rattle.np_frac.specs.Ratio.{Ratio, ◌<ᵣ◌}
-use Rattle.np_model.specs.declared.arc.Ends.{Ends}
-use Rattle.np_model.specs.declared.arc.Ends.TheVariants as ends
-use Rattle.np_model.specs.declared.scheme.FlowKind.{FlowKind}
-use Rattle.np_model.specs.declared.scheme.FlowKind.TheVariants.{Link, Hold, Drain, Feed}
 use Rattle.np_model.specs.declared.scheme.Flow.{Flow}
 use Rattle.np_model.specs.declared.scheme.Scheme.{Scheme}
-use Rattle.np_model.specs.Stages.{Stage, StagesFeasible, stages_cost, StagesLeast, StagesShow, StagesImpossible, stages_gap, StagesRay}
-
--- with k nodes, node i in a period is the expanded node (period - 1) * k + i
-abbrev pub node_in : ℕ → ℕ → ℕ → ℕ
-node_in k period i = (period - 1) * k + i
-
--- the ends of a flow in a period; a hold leads into the next one
-abbrev pub ends_in : ℕ → ℕ → FlowKind → Ends
-ends_in k period (Link from to gain) = ends.Link (node_in k period from) (node_in k period to) gain
-ends_in k period (Hold node gain) = ends.Link (node_in k period node) (node_in k (period + 1) node) gain
-ends_in k period (Drain node) = ends.Drain (node_in k period node)
-ends_in k period (Feed node) = ends.Feed (node_in k period node)
-
-abbrev pub is_hold : FlowKind → Bool
-is_hold (Link from to gain) = false
-is_hold (Hold node gain) = true
-is_hold (Drain node) = false
-is_hold (Feed node) = false
+use Rattle.np_model.specs.Scheme.Kinds.{ends_in, is_hold}
+use Rattle.np_model.specs.Scheme.Segments.{Stage}
+use Rattle.np_model.specs.Scheme.Convex.{StagesFeasible, stages_cost, StagesLeast, StagesShow, StagesImpossible, stages_gap, StagesRay}
 
 -- a flow of this number in a period
 abbrev pub stage_in : ℕ → ℕ → ℕ × Flow → Stage
@@ -54,6 +35,7 @@ scheme_cost scheme x = stages_cost (staged scheme) x
 abbrev pub IsLeastPlan : Scheme → List Ratio → Type 0
 IsLeastPlan scheme x = StagesLeast scheme.supply (staged scheme) x
 
+-- prices show a plan optimal
 abbrev pub PricesShow : Scheme → List Ratio → List Ratio → Type 0
 PricesShow scheme p x = StagesShow scheme.supply (staged scheme) p x
 
