@@ -41,7 +41,7 @@ each_none : {A : Type 0} (f : A → Option CheckRefusal) (xs : List A) → first
 each_none f [] e = tt
 each_none f (x ∷ xs) e = let both = both_none (f x) (first_refusal f xs) e in (both.0, each_none f xs both.1)
 
-not_false : (b : Bool) → not b ≡ false → b ≡ true
+pub not_false : (b : Bool) → not b ≡ false → b ≡ true
 not_false true e = refl
 not_false false e = absurd (cc e)
 
@@ -73,7 +73,7 @@ all_hulls P (s ∷ stages) h = (h.0, all_hulls P stages h.1)
 
 -- ---- bounds
 
-not_above : (x : Ratio) (u : Upper) → is_above x u ≡ false → IsAtMost x u
+pub not_above : (x : Ratio) (u : Upper) → is_above x u ≡ false → IsAtMost x u
 not_above x (Finite u) e = is_below_false u x e
 not_above x Infinite e = tt
 
@@ -85,17 +85,17 @@ bound_holds s x e =
 
 -- ---- reduced costs
 
-is_below_not : (a b : Ratio) → b ≤ᵣ a → is_below a b ≡ false
+pub is_below_not : (a b : Ratio) → b ≤ᵣ a → is_below a b ≡ false
 is_below_not a b k = elim (is_below a b) as (λ t. is_below a b ≡ t → t ≡ false) [ true ↦ λ e. absurd (clash (is_below_true a b e) k) | false ↦ λ e. refl ] refl
 
-is_above_not : (x : Ratio) (u : Upper) → IsAtMost x u → is_above x u ≡ false
+pub is_above_not : (x : Ratio) (u : Upper) → IsAtMost x u → is_above x u ≡ false
 is_above_not x Infinite h = refl
 is_above_not x (Finite u) h = is_below_not u x h
 
-is_below_so : (a b : Ratio) → a <ᵣ b → is_below a b ≡ true
+pub is_below_so : (a b : Ratio) → a <ᵣ b → is_below a b ≡ true
 is_below_so a b k = elim (is_below a b) as (λ t. is_below a b ≡ t → t ≡ true) [ true ↦ λ e. refl | false ↦ λ e. absurd (clash k (is_below_false a b e)) ] refl
 
-is_under_so : (x : Ratio) (u : Upper) → IsUnder x u → is_under x u ≡ true
+pub is_under_so : (x : Ratio) (u : Upper) → IsUnder x u → is_under x u ≡ true
 is_under_so x (Finite u) h = is_below_so x u h
 is_under_so x Infinite h = refl
 
@@ -236,7 +236,7 @@ signs_hold [] (d ∷ ds) long h = absurd (omega arith)
 signs_hold (s ∷ stages) [] long h = tt
 signs_hold (s ∷ stages) (d ∷ ds) long h = (sign_holds s d h.0, signs_hold stages ds (omega arith) h.1)
 
-at_zeros : (supply : List Ratio) (v : ℕ) → at (map (λ b. zero_ratio) supply) v ≡ zero_ratio
+pub at_zeros : (supply : List Ratio) (v : ℕ) → at (map (λ b. zero_ratio) supply) v ≡ zero_ratio
 at_zeros [] v = refl
 at_zeros (b ∷ supply) zero = refl
 at_zeros (b ∷ supply) (suc v) = at_zeros supply v

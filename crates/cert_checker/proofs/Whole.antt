@@ -1,22 +1,19 @@
 -- The walk over a scheme and a plan that fits it, from the lists that the code reads.
 use Rattle.std.specs.Prelude.{◌≡◌, ℕ, Option, None, Result, Ok, Err, List, length}
-use Rattle.std.specs.List.{All, AllByRecursion}
+use Rattle.std.specs.List.{All}
 use Rattle.std.proofs.Common.{refl, sym, ap, subst, ◌∙◌}
-use Rattle.std.proofs.lemmas.List.Elements.{recursion_from_All}
 use Rattle.np_frac.specs.Ratio.{Ratio}
 use Rattle.np_model.specs.declared.scheme.Flow.{Flow}
 use Rattle.np_model.specs.declared.scheme.Scheme.{Scheme}
 use Rattle.np_model.specs.declared.plan.Verdict.{Verdict}
 use Rattle.np_model.specs.declared.plan.Verdict.TheVariants as verdict
 use Rattle.np_model.specs.declared.plan.Plan.{Plan}
-use Rattle.np_model.specs.Network.{ReducedByEnds}
 use Rattle.np_model.specs.Stages.{Stage}
-use Rattle.np_model.specs.Schemes.{staged, IsFeasiblePlan, PricesProve, PricesExclude, RaysProve}
+use Rattle.np_model.specs.Schemes.{staged}
 use Rattle.np_model.specs.Fits.{FitsAs, PlanFits, OptimalFits, InfeasibleFits, UnboundedFits}
 use Rattle.cert_checker.specs.Walk.{walk, walk_as, amount_of, or_then, feasible_refusal, shown_refusal, optimal_refusal, infeasible_refusal, falling_refusal, unbounded_refusal, accepted_unless, goes_on_unless, UnlessMemory}
 use Rattle.cert_checker.specs.Nodes.{AreNodes}
 use Rattle.cert_checker.specs.Sums.{HasEnds}
-use Rattle.cert_checker.specs.Proves.{ProvesOptimal, ProvesInfeasible, ProvesUnbounded}
 use Rattle.cert_checker.specs.Arcs.{stages_of}
 use Rattle.cert_checker.specs.declared.staged.StagedArc.{StagedArc}
 use Rattle.cert_checker.specs.declared.answer.CheckRefusal.{CheckRefusal}
@@ -24,8 +21,8 @@ use Rattle.cert_checker.specs.declared.answer.Checked.{Checked}
 use Rattle.cert_checker.specs.declared.answer.Checked.TheVariants as checked
 use Rattle.cert_checker.proofs.First.{first_part, next_part, whole_refused}
 use Rattle.cert_checker.proofs.Pairs.{AreThere}
-use Rattle.cert_checker.proofs.Arcs.{arcs_there, arcs_joined, staged_joined}
-use Rattle.cert_checker.proofs.Theorem.{feasible_by_walk, ends_by_walk, shown_by_walk, cost_by_walk, forbidden_by_walk, falls_by_walk}
+use Rattle.cert_checker.proofs.Arcs.{arcs_there, arcs_joined}
+use Rattle.cert_checker.proofs.Theorem.{ends_by_walk}
 
 -- ---- what fits
 
@@ -124,32 +121,3 @@ module _ (scheme : Scheme) (plan : Plan) (flows : List Flow) (arcs : List Staged
 
   pub ends_told : length plan.flows ≡ length (staged scheme) → feasible_refusal (length scheme.nodes) scheme.supply (staged scheme) plan.flows ≡ None → All HasEnds (stages_of flows arcs)
   ends_told long none = subst (λ (z : List Stage). All HasEnds z) (sym stages_are) (ends_by_walk (length scheme.nodes) scheme.supply (staged scheme) plan.flows long none)
-
--- ---- what an accepted plan is
-
-joined_prices : (scheme : Scheme) (p : List Ratio) → length p ≡ length scheme.supply → AllByRecursion (λ s. AreNodes (length p) s.ends) (staged scheme)
-joined_prices scheme p e =
-    subst (λ (n : ℕ). AllByRecursion (λ (s : Stage). AreNodes n s.ends) (staged scheme)) (sym e) (recursion_from_All (λ s. AreNodes (length scheme.supply) s.ends) (staged scheme) (staged_joined scheme))
-
-pub proves_optimal : ReducedByEnds → PricesProve → (scheme : Scheme) (plan : Plan) → OptimalFits scheme plan → feasible_refusal (length scheme.nodes) scheme.supply (staged scheme) plan.flows ≡ None
-    → shown_refusal (staged scheme) plan.flows plan.prices (amount_of plan) ≡ None → ProvesOptimal scheme plan (amount_of plan)
-proves_optimal law duality scheme plan fits feasible shown =
-    let is_feasible : IsFeasiblePlan scheme plan.flows = feasible_by_walk (length scheme.nodes) scheme.supply (staged scheme) plan.flows fits.flows feasible in
-    let shows = shown_by_walk law scheme.supply (staged scheme) plan.prices plan.flows (amount_of plan) fits.prices (joined_prices scheme plan.prices fits.prices) shown in
-    record {
-      least = duality scheme plan.prices plan.flows is_feasible shows;
-      cost_is = cost_by_walk law scheme.supply (staged scheme) plan.prices plan.flows (amount_of plan) shown;
-      shown = shows;
-    }
-
-pub proves_infeasible : ReducedByEnds → PricesExclude → (scheme : Scheme) (plan : Plan) → InfeasibleFits scheme plan → infeasible_refusal scheme.supply (staged scheme) plan.prices (amount_of plan) ≡ None → ProvesInfeasible scheme plan (amount_of plan)
-proves_infeasible law exclude scheme plan fits none =
-    let forbids = forbidden_by_walk law scheme.supply (staged scheme) plan.prices (amount_of plan) fits.prices (joined_prices scheme plan.prices fits.prices) none in
-    record { forbid = forbids.0; gap_is = forbids.1; none = exclude scheme plan.prices forbids.0 }
-
-pub proves_unbounded : RaysProve → (scheme : Scheme) (plan : Plan) → UnboundedFits scheme plan → feasible_refusal (length scheme.nodes) scheme.supply (staged scheme) plan.flows ≡ None
-    → falling_refusal (length scheme.nodes) scheme.supply (staged scheme) plan.ray ≡ None → ProvesUnbounded scheme plan
-proves_unbounded law scheme plan fits feasible falling =
-    let is_feasible : IsFeasiblePlan scheme plan.flows = feasible_by_walk (length scheme.nodes) scheme.supply (staged scheme) plan.flows fits.flows feasible in
-    let falls = falls_by_walk (length scheme.nodes) scheme.supply (staged scheme) plan.flows plan.ray fits.ray is_feasible falling in
-    record { falls = falls; cheaper = law scheme plan.flows plan.ray falls }

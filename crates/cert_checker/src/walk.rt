@@ -17,11 +17,12 @@ use crate::balance::{Balancing, check_balance};
 use crate::bound::check_bounds;
 use crate::cost::check_cost;
 use crate::gap::{check_ends, check_gap, check_uppers};
+use crate::laws::walk_proves;
 use crate::ray::{check_ray_cost, check_rays};
 use crate::reduced::check_reduced;
 use crate::staged::{StagedArc, staged_arcs};
 use np_frac::{Frac, Memory};
-use np_model::{CheckRow, Flow, Plan, Scheme, Verdict, laws};
+use np_model::{CheckRow, Flow, Plan, Scheme, Verdict};
 use std::alloc::Global;
 
 /// Checks a plan that fits the scheme.
@@ -41,6 +42,7 @@ pub fn check(alloc: Global, scheme: &Scheme, plan: &Plan) -> Result<Checked, Che
     ensures optimal { plan.now.verdict ≡ verdict.Optimal → IfOk result (λ answer. answer ≡ checked.Optimal (amount_of plan.now)) }
     ensures proves { IfOk result (Proves scheme.now plan.now) }
 {
+    walk_proves();
     match plan.verdict {
         Verdict::Optimal => check_optimal(alloc, scheme, plan),
         Verdict::Infeasible => check_infeasible(alloc, scheme, plan),
@@ -67,10 +69,7 @@ fn check_optimal(alloc: Global, scheme: &Scheme, plan: &Plan) -> Result<Checked,
     requires fits { PlanFits scheme.now plan.now }
     ensures walk { UnlessMemory result (walk scheme.now plan.now) }
     ensures optimal { IfOk result (λ answer. answer ≡ checked.Optimal (amount_of plan.now)) }
-    ensures proves { IfOk result (Proves scheme.now plan.now) }
 {
-    laws::reduced_costs();
-    laws::optimal_by_prices();
     let cost = plan.amount.unwrap_or(Frac::whole(0));
     let staged = staged_arcs(alloc, scheme)?;
     let arcs = staged.as_slice();
@@ -86,11 +85,8 @@ fn check_optimal(alloc: Global, scheme: &Scheme, plan: &Plan) -> Result<Checked,
 fn check_infeasible(alloc: Global, scheme: &Scheme, plan: &Plan) -> Result<Checked, CheckRefusal>
     requires is { plan.now.verdict ≡ verdict.Infeasible }
     requires fits { PlanFits scheme.now plan.now }
-    ensures walk { UnlessMemory result (walk scheme.now plan.now) }
-    ensures proves { IfOk result (Proves scheme.now plan.now) }
+    ensures { UnlessMemory result (walk scheme.now plan.now) }
 {
-    laws::reduced_costs();
-    laws::infeasible_by_prices();
     let gap = plan.amount.unwrap_or(Frac::whole(0));
     let staged = staged_arcs(alloc, scheme)?;
     let arcs = staged.as_slice();
@@ -109,10 +105,8 @@ fn check_infeasible(alloc: Global, scheme: &Scheme, plan: &Plan) -> Result<Check
 fn check_unbounded(alloc: Global, scheme: &Scheme, plan: &Plan) -> Result<Checked, CheckRefusal>
     requires is { plan.now.verdict ≡ verdict.Unbounded }
     requires fits { PlanFits scheme.now plan.now }
-    ensures walk { UnlessMemory result (walk scheme.now plan.now) }
-    ensures proves { IfOk result (Proves scheme.now plan.now) }
+    ensures { UnlessMemory result (walk scheme.now plan.now) }
 {
-    laws::unbounded_by_ray();
     let staged = staged_arcs(alloc, scheme)?;
     let arcs = staged.as_slice();
     let supply = scheme.supply.as_slice();

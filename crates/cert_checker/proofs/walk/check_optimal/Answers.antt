@@ -1,12 +1,11 @@
-use Rattle.std.proofs.Common.{◌∙◌, Ok, ap, sym, subst, unwrap_or, length}
+use Rattle.std.proofs.Common.{◌∙◌, Ok, ap, unwrap_or, length}
 use Rattle.std.proofs.lemmas.Result.{err_from_is_err_and}
 use Rattle.np_frac.specs.Ratio.{Ratio}
 use Rattle.np_model.specs.Schemes.{staged}
 use Rattle.cert_checker.specs.Walk.{walk, amount_of, feasible_refusal, shown_refusal}
-use Rattle.cert_checker.specs.Proves.{ProvesOptimal}
 use Rattle.cert_checker.specs.declared.answer.Checked.TheVariants as checked
 use Rattle.cert_checker.proofs.First.{as_meant, accepted_ok, part_passes}
-use Rattle.cert_checker.proofs.Whole.{optimal_fits, walk_optimal, first_refuses, next_refuses, both_pass, reads, lists_there, lists_joined, feasible_told, shown_told, ends_told, proves_optimal}
+use Rattle.cert_checker.proofs.Whole.{optimal_fits, walk_optimal, first_refuses, next_refuses, both_pass, reads, lists_there, lists_joined, feasible_told, shown_told, ends_told}
 use Rattle.cert_checker.proofs.walk.check_optimal.Goals as goal
 
 pub check_feasible-requires-clause-there : goal.check_feasible-requires-clause-there
@@ -69,14 +68,3 @@ pub returns-clause-optimal : goal.returns-clause-optimal
 returns-clause-optimal c =
     let cost = c.unwrap_or-cost.ensures ∙ ap (λ zero. unwrap_or c.args.plan.now.amount zero) c.whole.ensures in
     ap checked.Optimal cost
-
-pub returns-clause-proves : goal.returns-clause-proves
-returns-clause-proves c =
-    let lists = reads c.args.scheme.now c.as_slice-flows.result.now c.as_slice-arcs.result.now c.in_ok-staged.staged.items c.as_slice-flows.ensures c.as_slice-arcs.ensures.value c.in_ok-staged.ensures in
-    let told = feasible_told c.args.scheme.now c.args.plan.now c.as_slice-flows.result.now c.as_slice-arcs.result.now lists (length c.as_slice-nodes.result.now) c.as_slice.result.now c.as_slice-amounts.result.now c.check_feasible.result (ap length c.as_slice-nodes.ensures) c.as_slice.ensures c.as_slice-amounts.ensures c.check_feasible.ensures in
-    let feasible = part_passes (feasible_refusal (length c.args.scheme.now.nodes) c.args.scheme.now.supply (staged c.args.scheme.now) c.args.plan.now.flows) c.in_ok-check_feasible.field-0 c.check_feasible.result told c.in_ok-check_feasible.was in
-    let cost = c.unwrap_or-cost.ensures ∙ ap (λ zero. unwrap_or c.args.plan.now.amount zero) c.whole.ensures in
-    let shown = shown_told c.args.scheme.now c.args.plan.now c.as_slice-flows.result.now c.as_slice-arcs.result.now lists c.as_slice-amounts.result.now c.as_slice-2.result.now c.unwrap_or-cost.result c.check_shown.result c.as_slice-amounts.ensures c.as_slice-2.ensures cost c.check_shown.ensures in
-    let fits = optimal_fits c.args.scheme.now c.args.plan.now c.requires.is c.requires.fits in
-    subst (λ (x : Ratio). ProvesOptimal c.args.scheme.now c.args.plan.now x) (sym cost)
-    (proves_optimal c.reduced_costs.ensures c.optimal_by_prices.ensures c.args.scheme.now c.args.plan.now fits feasible (accepted_ok (shown_refusal (staged c.args.scheme.now) c.args.plan.now.flows c.args.plan.now.prices (amount_of c.args.plan.now)) c.in_ok-check_shown.field-0 c.check_shown.result shown c.in_ok-check_shown.was))
