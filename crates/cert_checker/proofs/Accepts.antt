@@ -11,12 +11,14 @@ use Rattle.np_frac.proofs.RatioLaws.{is_below_true, is_below_false}
 use Rattle.np_model.specs.declared.arc.Upper.{Upper}
 use Rattle.np_model.specs.declared.arc.Upper.TheVariants.{Finite, Infinite}
 use Rattle.np_model.specs.declared.arc.NetArc.{NetArc}
-use Rattle.np_model.specs.declared.plan.CheckRow.{CheckRow}
-use Rattle.np_model.specs.declared.plan.CheckRow.TheVariants.{C1, C2, C3, C4, C5, C6}
-use Rattle.np_model.specs.Network.{ReducedByEnds, IsAtMost, IsWithin, IsFinite, at, balance, reduced}
-use Rattle.np_model.specs.Stages.{Stage, Segment, segments, last_end, hull, stages_cost, stages_gap, StagesFeasible, StagesShow, StagesImpossible, StagesRay, IsUnder, IsKink}
-use Rattle.cert_checker.specs.Walk.{tested, refused_if, or_then, first_refusal, balance_of, node_clause, balance_clauses, bound_clause, end_of, is_finite, is_above, is_under, price_of, left_test, right_test, reduced_clause, cost_of, cost_clause, reject_node, reject_stage, upper_clause, end_clause, gap_of, gap_clause, ray_clause, ray_balance_clauses, ray_cost_of, ray_cost_clause, feasible_refusal, shown_refusal, optimal_refusal, infeasible_refusal, falling_refusal, unbounded_refusal, accepted_unless}
-use Rattle.cert_checker.specs.Nodes.{AreNodes}
+use Rattle.np_model.specs.declared.rows.CheckRow.{CheckRow}
+use Rattle.np_model.specs.declared.rows.CheckRow.TheVariants.{C1, C2, C3, C4, C5, C6}
+use Rattle.np_model.specs.Network.Duality.{reduced}
+use Rattle.np_model.specs.Network.Arcs.{IsAtMost, IsWithin, IsFinite, IsUnder, is_finite, is_at_most, is_under, AreNodes}
+use Rattle.np_model.specs.Network.Flows.{at, balance}
+use Rattle.np_model.specs.Scheme.Segments.{Stage, Segment, segments, last_end, hull}
+use Rattle.np_model.specs.Scheme.Convex.{stages_cost, stages_gap, StagesFeasible, StagesShow, StagesImpossible, StagesRay, IsKink}
+use Rattle.cert_checker.specs.Walk.{tested, refused_if, or_then, first_refusal, outflow_of, node_clause, balance_clauses, bound_clause, end_of, reduced_of, left_test, right_test, reduced_clause, cost_of, cost_clause, reject_node, reject_stage, upper_clause, end_clause, gap_of, gap_clause, ray_clause, ray_balance_clauses, ray_cost_of, ray_cost_clause, feasible_refusal, shown_refusal, optimal_refusal, infeasible_refusal, falling_refusal, unbounded_refusal, accepted_unless, with_stage_ends}
 use Rattle.cert_checker.specs.Laws.{AcceptsOrOverflows}
 use Rattle.cert_checker.specs.declared.answer.Checked.{Checked}
 use Rattle.cert_checker.specs.declared.answer.Clause.{Clause}
@@ -24,8 +26,8 @@ use Rattle.cert_checker.specs.declared.answer.Clause.TheVariants.{Balance, Reduc
 use Rattle.cert_checker.specs.declared.answer.Clause.TheVariants as clauses
 use Rattle.cert_checker.specs.declared.answer.CheckRefusal.{CheckRefusal}
 use Rattle.cert_checker.specs.declared.answer.CheckRefusal.TheVariants as refusal
-use Rattle.cert_checker.proofs.Exact.{balance_exact, end_exact, price_exact, cost_exact, gap_exact, ray_cost_exact}
-use Rattle.cert_checker.proofs.Theorem.{not_above, is_below_not, is_above_not, is_below_so, at_zeros}
+use Rattle.cert_checker.proofs.Exact.{balance_exact, end_exact, reduced_exact, cost_exact, gap_exact, ray_cost_exact}
+use Rattle.cert_checker.proofs.Theorem.{not_so, at_most_true, at_most_so, is_below_not, is_below_so, at_zeros}
 
 -- no refusal, or an operation that overflows
 abbrev pub OverflowsAtMost : Option CheckRefusal → Type 0
@@ -62,10 +64,6 @@ not_true : (b : Bool) → b ≡ true → not b ≡ false
 not_true true e = refl
 not_true false e = absurd (cc e)
 
-not_so : (b : Bool) → not b ≡ true → b ≡ false
-not_so true e = absurd (cc e)
-not_so false e = refl
-
 neither : (a b : Bool) → a ≡ false → b ≡ false → (a || b) ≡ false
 neither true b e f = absurd (cc e)
 neither false b e f = f
@@ -99,29 +97,29 @@ from_hulls P f step (s ∷ stages) (x ∷ xs) h = (step s x h.0, from_hulls P f 
 -- ---- balance
 
 module _ (k : ℕ) (stages : List Stage) (x : List Ratio) where
-  node_accepts : (row : CheckRow) (clause : Clause) (v : ℕ) (wanted : Ratio) → balance (map hull stages) x v ≡ wanted → OverflowsAtMost (node_clause row clause k (zip stages x) (v, wanted))
+  node_accepts : (row : CheckRow) (clause : Clause) (v : ℕ) (wanted : Ratio) → balance (map hull stages) x v ≡ wanted → OverflowsAtMost (node_clause row clause k (with_stage_ends stages x) (v, wanted))
   node_accepts row clause v wanted is =
-      test_accepts row (balance_of (zip stages x) v) (λ sum. refused_if (not (ratio_eq sum wanted)) (reject_node clause k v))
+      test_accepts row (outflow_of (with_stage_ends stages x) v) (λ sum. refused_if (not (ratio_eq sum wanted)) (reject_node clause k v))
       (λ sum found. holds (not (ratio_eq sum wanted)) (reject_node clause k v) (not_true (ratio_eq sum wanted) (true_tests sum wanted (balance_exact stages x v sum found ∙ is))))
 
   nodes_accept : (row : CheckRow) (clause : Clause) (wanted : List Ratio) → ((v : ℕ) → v < length wanted → balance (map hull stages) x v ≡ at wanted v)
-      → OverflowsAtMost (first_refusal (node_clause row clause k (zip stages x)) (enumerate_from 0 wanted))
+      → OverflowsAtMost (first_refusal (node_clause row clause k (with_stage_ends stages x)) (enumerate_from 0 wanted))
   nodes_accept row clause wanted balanced =
-      each_accepts (node_clause row clause k (zip stages x)) (enumerate_from 0 wanted)
-      (each_node (node_clause row clause k (zip stages x)) 0 wanted
+      each_accepts (node_clause row clause k (with_stage_ends stages x)) (enumerate_from 0 wanted)
+      (each_node (node_clause row clause k (with_stage_ends stages x)) 0 wanted
       (λ v below. let e : 0 + v ≡ v = omega arith in rw e (node_accepts row clause v (at wanted v) (balanced v below))))
 
 -- ---- bounds
 
 bound_accepts : (s : Stage) (x : Ratio) → IsWithin (hull s) x → OverflowsAtMost (bound_clause (s, x))
 bound_accepts s x within =
-    test_accepts C2 (end_of s.upper s.bands) (λ end. refused_if (is_below x s.lower || is_above x end) (reject_stage clauses.Bound s))
-    (λ end found. holds (is_below x s.lower || is_above x end) (reject_stage clauses.Bound s)
-    (neither (is_below x s.lower) (is_above x end) (is_below_not x s.lower within.0) (is_above_not x end (subst (λ (u : Upper). IsAtMost x u) (sym (end_exact s.upper s.bands end found)) within.1))))
+    test_accepts C2 (end_of s.upper s.bands) (λ end. refused_if (is_below x s.lower || not (is_at_most x end)) (reject_stage clauses.Bound s))
+    (λ end found. holds (is_below x s.lower || not (is_at_most x end)) (reject_stage clauses.Bound s)
+    (neither (is_below x s.lower) (not (is_at_most x end)) (is_below_not x s.lower within.0) (not_true (is_at_most x end) (at_most_so x end (subst (λ (u : Upper). IsAtMost x u) (sym (end_exact s.upper s.bands end found)) within.1)))))
 
 pub feasible_accepts : (k : ℕ) (supply : List Ratio) (stages : List Stage) (x : List Ratio) → StagesFeasible supply stages x → OverflowsAtMost (feasible_refusal k supply stages x)
 feasible_accepts k supply stages x feasible =
-    both_accept (balance_clauses k (zip stages x) supply) (first_refusal bound_clause (zip stages x))
+    both_accept (balance_clauses k (with_stage_ends stages x) supply) (first_refusal bound_clause (zip stages x))
     (nodes_accept k stages x C1 Balance supply feasible.balanced)
     (each_accepts bound_clause (zip stages x)
     (from_hulls (λ (a, q). IsWithin a q) bound_clause bound_accepts stages x (recursion_from_All (λ (a, q). IsWithin a q) (zip (map hull stages) x) feasible.within)))
@@ -132,17 +130,17 @@ is_under_true : (x : Ratio) (u : Upper) → is_under x u ≡ true → IsUnder x 
 is_under_true x (Finite u) e = is_below_true x u e
 is_under_true x Infinite e = tt
 
-module _ (law : ReducedByEnds) (p : List Ratio) (s : Stage) (x : Ratio) (nodes : AreNodes (length p) s.ends) where
+module _ (p : List Ratio) (s : Stage) (x : Ratio) (nodes : AreNodes (length p) s.ends) where
   left_accepts : (g : Segment) → IsKink p s.ends x g → OverflowsAtMost (left_test p s x g)
   left_accepts g kink =
-      elim (is_below g.start x && not (is_above x g.end)) as (λ b.
-      (is_below g.start x && not (is_above x g.end)) ≡ b
-      → OverflowsAtMost (if b then tested C3 (price_of p s.ends g.slope) (λ r. refused_if (is_below zero_ratio r) (reject_stage Reduced s)) else None)) [
+      elim (is_below g.start x && is_at_most x g.end) as (λ b.
+      (is_below g.start x && is_at_most x g.end) ≡ b
+      → OverflowsAtMost (if b then tested C3 (reduced_of p s.ends g.slope) (λ r. refused_if (is_below zero_ratio r) (reject_stage Reduced s)) else None)) [
         | true ↦ λ e.
-            let beside = both_so (is_below g.start x) (not (is_above x g.end)) e in
-            let sign : reduced p s.ends g.slope ≤ᵣ zero_ratio = kink.0 (is_below_true g.start x beside.0) (not_above x g.end (not_so (is_above x g.end) beside.1)) in
-            test_accepts C3 (price_of p s.ends g.slope) (λ r. refused_if (is_below zero_ratio r) (reject_stage Reduced s))
-            (λ r found. holds (is_below zero_ratio r) (reject_stage Reduced s) (is_below_not zero_ratio r (subst (λ (q : Ratio). q ≤ᵣ zero_ratio) (sym (price_exact law p s.ends g.slope r nodes found)) sign)))
+            let beside = both_so (is_below g.start x) (is_at_most x g.end) e in
+            let sign : reduced p s.ends g.slope ≤ᵣ zero_ratio = kink.0 (is_below_true g.start x beside.0) (at_most_true x g.end beside.1) in
+            test_accepts C3 (reduced_of p s.ends g.slope) (λ r. refused_if (is_below zero_ratio r) (reject_stage Reduced s))
+            (λ r found. holds (is_below zero_ratio r) (reject_stage Reduced s) (is_below_not zero_ratio r (subst (λ (q : Ratio). q ≤ᵣ zero_ratio) (sym (reduced_exact p s.ends g.slope r nodes found)) sign)))
         | false ↦ λ e. tt
       ] refl
 
@@ -150,12 +148,12 @@ module _ (law : ReducedByEnds) (p : List Ratio) (s : Stage) (x : Ratio) (nodes :
   right_accepts g kink =
       elim (not (is_below x g.start) && is_under x g.end) as (λ b.
       (not (is_below x g.start) && is_under x g.end) ≡ b
-      → OverflowsAtMost (if b then tested C3 (price_of p s.ends g.slope) (λ r. refused_if (is_below r zero_ratio) (reject_stage Reduced s)) else None)) [
+      → OverflowsAtMost (if b then tested C3 (reduced_of p s.ends g.slope) (λ r. refused_if (is_below r zero_ratio) (reject_stage Reduced s)) else None)) [
         | true ↦ λ e.
             let beside = both_so (not (is_below x g.start)) (is_under x g.end) e in
             let sign : zero_ratio ≤ᵣ reduced p s.ends g.slope = kink.1 (is_below_false x g.start (not_so (is_below x g.start) beside.0)) (is_under_true x g.end beside.1) in
-            test_accepts C3 (price_of p s.ends g.slope) (λ r. refused_if (is_below r zero_ratio) (reject_stage Reduced s))
-            (λ r found. holds (is_below r zero_ratio) (reject_stage Reduced s) (is_below_not r zero_ratio (subst (λ (q : Ratio). zero_ratio ≤ᵣ q) (sym (price_exact law p s.ends g.slope r nodes found)) sign)))
+            test_accepts C3 (reduced_of p s.ends g.slope) (λ r. refused_if (is_below r zero_ratio) (reject_stage Reduced s))
+            (λ r found. holds (is_below r zero_ratio) (reject_stage Reduced s) (is_below_not r zero_ratio (subst (λ (q : Ratio). zero_ratio ≤ᵣ q) (sym (reduced_exact p s.ends g.slope r nodes found)) sign)))
         | false ↦ λ e. tt
       ] refl
 
@@ -173,15 +171,15 @@ module _ (law : ReducedByEnds) (p : List Ratio) (s : Stage) (x : Ratio) (nodes :
       both_accept (first_refusal (left_test p s x) (segments s)) (first_refusal (right_test p s x) (segments s))
       (each_accepts (left_test p s x) (segments s) (lefts_accept (segments s) each)) (each_accepts (right_test p s x) (segments s) (rights_accept (segments s) each))
 
-slopes_accept : ReducedByEnds → (p : List Ratio) (stages : List Stage) (xs : List Ratio) → AllByRecursion (λ s. AreNodes (length p) s.ends) stages → AllByRecursion (λ (s, x). All (IsKink p s.ends x) (segments s)) (zip stages xs)
+slopes_accept : (p : List Ratio) (stages : List Stage) (xs : List Ratio) → AllByRecursion (λ s. AreNodes (length p) s.ends) stages → AllByRecursion (λ (s, x). All (IsKink p s.ends x) (segments s)) (zip stages xs)
     → AllByRecursion (λ z. OverflowsAtMost (reduced_clause p z)) (zip stages xs)
-slopes_accept law p [] xs nodes h = tt
-slopes_accept law p (s ∷ stages) [] nodes h = tt
-slopes_accept law p (s ∷ stages) (x ∷ xs) nodes h = (reduced_accepts law p s x nodes.0 h.0, slopes_accept law p stages xs nodes.1 h.1)
+slopes_accept p [] xs nodes h = tt
+slopes_accept p (s ∷ stages) [] nodes h = tt
+slopes_accept p (s ∷ stages) (x ∷ xs) nodes h = (reduced_accepts p s x nodes.0 h.0, slopes_accept p stages xs nodes.1 h.1)
 
 -- ---- an optimal plan
 
-module _ (law : ReducedByEnds) (supply : List Ratio) (stages : List Stage) (p x : List Ratio) where
+module _ (supply : List Ratio) (stages : List Stage) (p x : List Ratio) where
   cost_accepts : (amount : Ratio) → stages_cost stages x ≡ amount → OverflowsAtMost (cost_clause (zip stages x) amount)
   cost_accepts amount is =
       test_accepts C4 (cost_of (zip stages x)) (λ sum. refused_if (not (ratio_eq sum amount)) (refusal.Reject clauses.Cost None 0))
@@ -192,7 +190,7 @@ module _ (law : ReducedByEnds) (supply : List Ratio) (stages : List Stage) (p x 
   optimal_accepts k amount nodes feasible shows is =
       both_accept (feasible_refusal k supply stages x) (shown_refusal stages x p amount) (feasible_accepts k supply stages x feasible)
       (both_accept (first_refusal (reduced_clause p) (zip stages x)) (cost_clause (zip stages x) amount)
-      (each_accepts (reduced_clause p) (zip stages x) (slopes_accept law p stages x nodes (recursion_from_All (λ (s, q). All (IsKink p s.ends q) (segments s)) (zip stages x) shows.slopes)))
+      (each_accepts (reduced_clause p) (zip stages x) (slopes_accept p stages x nodes (recursion_from_All (λ (s, q). All (IsKink p s.ends q) (segments s)) (zip stages x) shows.slopes)))
       (cost_accepts amount is))
 
 -- ---- no plan
@@ -201,30 +199,30 @@ finite_true : (u : Upper) → IsFinite u → is_finite u ≡ true
 finite_true (Finite u) h = refl
 finite_true Infinite h = absurd h
 
-upper_accepts : ReducedByEnds → (p : List Ratio) (s : Stage) → AreNodes (length p) s.ends → (reduced p s.ends zero_ratio <ᵣ zero_ratio → IsFinite (last_end s.upper s.bands)) → OverflowsAtMost (upper_clause p s)
-upper_accepts law p s nodes finite =
-    test_accepts C3 (price_of p s.ends zero_ratio) (λ r. refused_if (is_below r zero_ratio && not (is_finite (last_end s.upper s.bands))) (reject_stage clauses.Upper s))
+upper_accepts : (p : List Ratio) (s : Stage) → AreNodes (length p) s.ends → (reduced p s.ends zero_ratio <ᵣ zero_ratio → IsFinite (last_end s.upper s.bands)) → OverflowsAtMost (upper_clause p s)
+upper_accepts p s nodes finite =
+    test_accepts C3 (reduced_of p s.ends zero_ratio) (λ r. refused_if (is_below r zero_ratio && not (is_finite (last_end s.upper s.bands))) (reject_stage clauses.Upper s))
     (λ r found. holds (is_below r zero_ratio && not (is_finite (last_end s.upper s.bands))) (reject_stage clauses.Upper s)
     (not_both (is_below r zero_ratio) (not (is_finite (last_end s.upper s.bands)))
     (λ below.
     not_true (is_finite (last_end s.upper s.bands))
-    (finite_true (last_end s.upper s.bands) (finite (subst (λ (q : Ratio). q <ᵣ zero_ratio) (price_exact law p s.ends zero_ratio r nodes found) (is_below_true r zero_ratio below)))))))
+    (finite_true (last_end s.upper s.bands) (finite (subst (λ (q : Ratio). q <ᵣ zero_ratio) (reduced_exact p s.ends zero_ratio r nodes found) (is_below_true r zero_ratio below)))))))
 
-uppers_accept : ReducedByEnds → (p : List Ratio) (stages : List Stage) → AllByRecursion (λ s. AreNodes (length p) s.ends) stages → AllByRecursion (λ a. reduced p a.ends zero_ratio <ᵣ zero_ratio → IsFinite a.upper) (map hull stages)
+uppers_accept : (p : List Ratio) (stages : List Stage) → AllByRecursion (λ s. AreNodes (length p) s.ends) stages → AllByRecursion (λ a. reduced p a.ends zero_ratio <ᵣ zero_ratio → IsFinite a.upper) (map hull stages)
     → AllByRecursion (λ s. OverflowsAtMost (upper_clause p s)) stages
-uppers_accept law p [] nodes h = tt
-uppers_accept law p (s ∷ stages) nodes h = (upper_accepts law p s nodes.0 h.0, uppers_accept law p stages nodes.1 h.1)
+uppers_accept p [] nodes h = tt
+uppers_accept p (s ∷ stages) nodes h = (upper_accepts p s nodes.0 h.0, uppers_accept p stages nodes.1 h.1)
 
 ends_accept : (stages : List Stage) → AllByRecursion (λ s. OverflowsAtMost (end_clause s)) stages
 ends_accept [] = tt
 ends_accept (s ∷ stages) = (test_accepts C2 (end_of s.upper s.bands) (λ end. None) (λ end found. tt), ends_accept stages)
 
-module _ (law : ReducedByEnds) (supply : List Ratio) (stages : List Stage) (p : List Ratio) where
+module _ (supply : List Ratio) (stages : List Stage) (p : List Ratio) where
   gap_accepts : (amount : Ratio) → AllByRecursion (λ s. AreNodes (length p) s.ends) stages → zero_ratio <ᵣ stages_gap supply stages p → stages_gap supply stages p ≡ amount → OverflowsAtMost (gap_clause supply stages p amount)
   gap_accepts amount nodes above is =
       test_accepts C5 (gap_of supply stages p) (λ sum. refused_if (not (is_below zero_ratio sum) || not (ratio_eq sum amount)) (refusal.Reject clauses.Gap None 0))
       (λ sum found.
-      let exact = gap_exact law supply stages p sum nodes found in
+      let exact = gap_exact supply stages p sum nodes found in
       holds (not (is_below zero_ratio sum) || not (ratio_eq sum amount)) (refusal.Reject clauses.Gap None 0)
       (neither (not (is_below zero_ratio sum)) (not (ratio_eq sum amount))
       (not_true (is_below zero_ratio sum) (is_below_so zero_ratio sum (subst (λ (g : Ratio). zero_ratio <ᵣ g) (sym exact) above)))
@@ -234,7 +232,7 @@ module _ (law : ReducedByEnds) (supply : List Ratio) (stages : List Stage) (p : 
   infeasible_accepts amount nodes forbids is =
       both_accept (first_refusal (upper_clause p) stages) (or_then (first_refusal end_clause stages) (gap_clause supply stages p amount))
       (each_accepts (upper_clause p) stages
-      (uppers_accept law p stages nodes (recursion_from_All (λ a. reduced p a.ends zero_ratio <ᵣ zero_ratio → IsFinite a.upper) (map hull stages) forbids.finite)))
+      (uppers_accept p stages nodes (recursion_from_All (λ a. reduced p a.ends zero_ratio <ᵣ zero_ratio → IsFinite a.upper) (map hull stages) forbids.finite)))
       (both_accept (first_refusal end_clause stages) (gap_clause supply stages p amount) (each_accepts end_clause stages (ends_accept stages)) (gap_accepts amount nodes forbids.gap_above is))
 
 -- ---- no least plan
@@ -266,9 +264,9 @@ module _ (k : ℕ) (supply : List Ratio) (stages : List Stage) (x d : List Ratio
   pub unbounded_accepts : StagesRay supply stages x d → OverflowsAtMost (unbounded_refusal k supply stages x d)
   unbounded_accepts ray =
       both_accept (feasible_refusal k supply stages x) (falling_refusal k supply stages d) (feasible_accepts k supply stages x ray.feasible)
-      (both_accept (first_refusal ray_clause (zip stages d)) (or_then (ray_balance_clauses k (zip stages d) supply) (ray_cost_clause (zip stages d)))
+      (both_accept (first_refusal ray_clause (zip stages d)) (or_then (ray_balance_clauses k (with_stage_ends stages d) supply) (ray_cost_clause (zip stages d)))
       (each_accepts ray_clause (zip stages d)
       (rays_accept stages d (recursion_from_All (λ q. zero_ratio ≤ᵣ q) d ray.not_negative) (recursion_from_All (λ (a, q). zero_ratio <ᵣ q → a.upper ≡ Infinite) (zip (map hull stages) d) ray.unbounded)))
-      (both_accept (ray_balance_clauses k (zip stages d) supply) (ray_cost_clause (zip stages d))
+      (both_accept (ray_balance_clauses k (with_stage_ends stages d) supply) (ray_cost_clause (zip stages d))
       (nodes_accept k stages d C6 RayBalance (map (λ b. zero_ratio) supply) (λ v below. ray.balanced v (omega (arith, length-map supply (λ (b : Ratio). zero_ratio))) ∙ sym (at_zeros supply v)))
       (ray_cost_accepts ray)))

@@ -3,10 +3,10 @@ use Rattle.std.specs.Prelude.{◌≡◌, ◌⊎◌, Some, Result, Ok, Err}
 use Rattle.np_frac.specs.declared.frac.Past.{Past}
 use Rattle.np_model.specs.declared.scheme.Scheme.{Scheme}
 use Rattle.np_model.specs.declared.plan.Plan.{Plan}
-use Rattle.np_model.specs.declared.plan.CheckRow.{CheckRow}
+use Rattle.np_model.specs.declared.rows.CheckRow.{CheckRow}
 use Rattle.np_model.specs.declared.plan.Verdict.TheVariants as verdict
-use Rattle.np_model.specs.Schemes.{IsFeasiblePlan, scheme_cost, PricesShow, PricesForbid, price_gap, FallsAlong}
-use Rattle.np_model.specs.Fits.{PlanFits}
+use Rattle.np_model.specs.Scheme.Plans.{IsFeasiblePlan, scheme_cost, PricesShow, PricesForbid, price_gap, FallsAlong}
+use Rattle.np_model.specs.Scheme.Fits.{PlanFits}
 use Rattle.cert_checker.specs.Walk.{walk}
 use Rattle.cert_checker.specs.Proves.{Proves}
 use Rattle.cert_checker.specs.declared.answer.Checked.{Checked}

@@ -1,5 +1,4 @@
 pub mod Walk
-pub mod Nodes
 pub mod Sums
 pub mod Proves
 pub mod Laws

@@ -1,26 +1,21 @@
 -- The walk over the lists that the checker keeps: clauses of values that are known.
 use Rattle.std.specs.Prelude.{ℕ, not, ◌&&◌, Bool, if◌then◌else◌, Option, Some, None, Result, Ok, IsOk, List}
-use Rattle.std.specs.List.{fold}
 use Rattle.np_frac.specs.Ratio.{Ratio, zero_ratio, is_below}
 use Rattle.np_frac.specs.Order.{ratio_eq}
-use Rattle.np_frac.specs.Exact.{plus_of, minus_of, times_of}
+use Rattle.np_frac.specs.Exact.{plus_of, minus_of, times_of, ◌▷◌}
 use Rattle.np_frac.specs.declared.frac.Past.{Past}
 use Rattle.np_model.specs.declared.arc.Upper.{Upper}
 use Rattle.np_model.specs.declared.arc.Upper.TheVariants.{Finite, Infinite}
-use Rattle.np_model.specs.declared.plan.CheckRow.{CheckRow}
+use Rattle.np_model.specs.declared.rows.CheckRow.{CheckRow}
 use Rattle.np_model.specs.declared.scheme.Band.{Band}
-use Rattle.np_model.specs.Stages.{Stage, Segment as TheSegment, end_after, lesser}
-use Rattle.cert_checker.specs.Walk.{◌▷◌, tested, refused_if, reject_node, balance_step, band_end, end_of, is_above, is_under, left_test, right_test}
+use Rattle.np_model.specs.Scheme.Segments.{Stage, Segment as TheSegment, end_after}
+use Rattle.np_model.specs.Network.Arcs.{lesser, is_at_most, is_under}
+use Rattle.cert_checker.specs.Walk.{tested, refused_if, reject_node, band_end, end_of, left_test, right_test}
 use Rattle.cert_checker.specs.declared.answer.Clause.{Clause}
 use Rattle.cert_checker.specs.declared.answer.CheckRefusal.{CheckRefusal}
-use Rattle.cert_checker.specs.declared.staged.StagedArc.{StagedArc}
 use Rattle.cert_checker.specs.declared.segment.Segment.{Segment}
 use Rattle.cert_checker.specs.declared.reduced.Side.{Side}
 use Rattle.cert_checker.specs.declared.reduced.Side.TheVariants.{Left, Right}
-
--- the balance of a node over the arcs that the checker keeps
-abbrev pub arcs_balance : List (StagedArc × Ratio) → ℕ → Result Ratio Past
-arcs_balance pairs v = fold (λ running (arc, x). running ▷ balance_step v arc.ends x) (Ok zero_ratio) pairs
 
 -- the clause of balance at a node whose sum is known
 abbrev pub sum_clause : CheckRow → Clause → ℕ → ℕ × (Ratio × Result Ratio Past) → Option CheckRefusal
@@ -41,7 +36,7 @@ as_segment g = record { start = g.start; end = g.end; slope = g.slope }
 
 -- the segment is the one on this side of the amount
 abbrev pub is_beside : Side → Ratio → TheSegment → Bool
-is_beside Left x g = is_below g.start x && not (is_above x g.end)
+is_beside Left x g = is_below g.start x && is_at_most x g.end
 is_beside Right x g = not (is_below x g.start) && is_under x g.end
 
 -- the sign that a reduced cost may not have on this side
@@ -62,6 +57,6 @@ abbrev pub map_segment : Option Segment → Option TheSegment
 map_segment None = None
 map_segment (Some g) = Some (as_segment g)
 
--- no end of a segment passes
-abbrev pub HasEnds : Stage → Type 0
-HasEnds s = IsOk (end_of s.upper s.bands)
+-- no end of a segment overflows
+abbrev pub EndsFit : Stage → Type 0
+EndsFit s = IsOk (end_of s.upper s.bands)

@@ -4,12 +4,12 @@ ghost use Rattle.std.specs.Prelude.{◌≡◌, ◌<◌, ◌^◌, length, map, If
 ghost use Rattle.std.specs.List.{All};
 ghost use Rattle.np_frac.specs.Ratio.{zero_ratio};
 ghost use Rattle.np_model.specs.declared.plan.Verdict.TheVariants as verdict;
-ghost use Rattle.np_model.specs.Fits.{PlanFits};
+ghost use Rattle.np_model.specs.Scheme.Fits.{PlanFits};
 ghost use Rattle.cert_checker.specs.Walk.{walk, amount_of, feasible_refusal, shown_refusal, infeasible_refusal, falling_refusal, goes_on_unless, UnlessMemory};
 ghost use Rattle.cert_checker.specs.declared.answer.Checked.TheVariants as checked;
-ghost use Rattle.cert_checker.specs.Arcs.{stages_of};
-ghost use Rattle.cert_checker.specs.Sums.{HasEnds};
-ghost use Rattle.cert_checker.specs.Nodes.{AreNodes};
+ghost use Rattle.cert_checker.specs.Arcs.{as_stage};
+ghost use Rattle.cert_checker.specs.Sums.{EndsFit};
+ghost use Rattle.np_model.specs.Network.Arcs.{AreNodes};
 ghost use Rattle.cert_checker.specs.Proves.{Proves};
 
 use crate::answer::{CheckRefusal, Checked, Clause};
@@ -22,7 +22,7 @@ use crate::ray::{check_ray_cost, check_rays};
 use crate::reduced::check_reduced;
 use crate::staged::{StagedArc, staged_arcs};
 use np_frac::{Frac, Memory};
-use np_model::{CheckRow, Flow, Plan, Scheme, Verdict};
+use np_model::{CheckRow, Plan, Scheme, Verdict};
 use std::alloc::Global;
 
 /// Checks a plan that fits the scheme.
@@ -73,11 +73,10 @@ fn check_optimal(alloc: Global, scheme: &Scheme, plan: &Plan) -> Result<Checked,
     let cost = plan.amount.unwrap_or(Frac::whole(0));
     let staged = staged_arcs(alloc, scheme)?;
     let arcs = staged.as_slice();
-    let flows = scheme.flows.as_slice();
     let amounts = plan.flows.as_slice();
     let nodes = scheme.nodes.as_slice().len();
-    check_feasible(alloc, nodes, scheme.supply.as_slice(), flows, arcs, amounts)?;
-    check_shown(plan.prices.as_slice(), flows, arcs, amounts, cost)?;
+    check_feasible(alloc, nodes, scheme.supply.as_slice(), arcs, amounts)?;
+    check_shown(plan.prices.as_slice(), arcs, amounts, cost)?;
     Ok(Checked::Optimal(cost))
 }
 
@@ -90,14 +89,7 @@ fn check_infeasible(alloc: Global, scheme: &Scheme, plan: &Plan) -> Result<Check
     let gap = plan.amount.unwrap_or(Frac::whole(0));
     let staged = staged_arcs(alloc, scheme)?;
     let arcs = staged.as_slice();
-    let flows = scheme.flows.as_slice();
-    check_forbidden(
-        plan.prices.as_slice(),
-        scheme.supply.as_slice(),
-        flows,
-        arcs,
-        gap,
-    )?;
+    check_forbidden(plan.prices.as_slice(), scheme.supply.as_slice(), arcs, gap)?;
     Ok(Checked::Infeasible(gap))
 }
 
@@ -110,10 +102,9 @@ fn check_unbounded(alloc: Global, scheme: &Scheme, plan: &Plan) -> Result<Checke
     let staged = staged_arcs(alloc, scheme)?;
     let arcs = staged.as_slice();
     let supply = scheme.supply.as_slice();
-    let flows = scheme.flows.as_slice();
     let nodes = scheme.nodes.as_slice().len();
-    check_feasible(alloc, nodes, supply, flows, arcs, plan.flows.as_slice())?;
-    check_falling(alloc, nodes, supply, flows, arcs, plan.ray.as_slice())?;
+    check_feasible(alloc, nodes, supply, arcs, plan.flows.as_slice())?;
+    check_falling(alloc, nodes, supply, arcs, plan.ray.as_slice())?;
     Ok(Checked::Unbounded)
 }
 
@@ -122,16 +113,14 @@ fn check_feasible(
     alloc: Global,
     nodes: usize,
     supply: &[Frac],
-    flows: &[Flow],
     arcs: &[StagedArc],
     amounts: &[Frac],
 ) -> Result<(), CheckRefusal>
     requires long { length amounts.now ≡ length arcs.now }
-    requires there { All (λ arc. arc.flow < length flows.now) arcs.now }
-    requires joined { All (λ arc. AreNodes (length supply.now) arc.ends) arcs.now }
+    requires joined { All (λ arc. AreNodes (length supply.now) (as_stage arc).ends) arcs.now }
     requires some { 0 < length supply.now → 0 < nodes }
     requires few { length supply.now < 2 ^ 32 }
-    ensures { UnlessMemory result (goes_on_unless (feasible_refusal nodes supply.now (stages_of flows.now arcs.now) amounts.now)) }
+    ensures { UnlessMemory result (goes_on_unless (feasible_refusal nodes supply.now (map as_stage arcs.now) amounts.now)) }
 {
     let by = Balancing {
         row: CheckRow::C1,
@@ -139,43 +128,39 @@ fn check_feasible(
         nodes,
     };
     check_balance(alloc, by, supply, arcs, amounts)?;
-    check_bounds(flows, arcs, amounts)
+    check_bounds(arcs, amounts)
 }
 
 // Whether the prices show the flows optimal, and they cost this much.
 fn check_shown(
     prices: &[Frac],
-    flows: &[Flow],
     arcs: &[StagedArc],
     amounts: &[Frac],
     cost: Frac,
 ) -> Result<(), CheckRefusal>
     requires long { length amounts.now ≡ length arcs.now }
-    requires there { All (λ arc. arc.flow < length flows.now) arcs.now }
-    requires joined { All (λ arc. AreNodes (length prices.now) arc.ends) arcs.now }
-    requires ends { All HasEnds (stages_of flows.now arcs.now) }
-    ensures { result ≡ goes_on_unless (shown_refusal (stages_of flows.now arcs.now) amounts.now prices.now cost) }
+    requires joined { All (λ arc. AreNodes (length prices.now) (as_stage arc).ends) arcs.now }
+    requires ends { All EndsFit (map as_stage arcs.now) }
+    ensures { result ≡ goes_on_unless (shown_refusal (map as_stage arcs.now) amounts.now prices.now cost) }
 {
-    check_reduced(prices, flows, arcs, amounts)?;
-    check_cost(flows, arcs, amounts, cost)
+    check_reduced(prices, arcs, amounts)?;
+    check_cost(arcs, amounts, cost)
 }
 
 // Whether the prices show that there is no plan, with this gap.
 fn check_forbidden(
     prices: &[Frac],
     supply: &[Frac],
-    flows: &[Flow],
     arcs: &[StagedArc],
     gap: Frac,
 ) -> Result<(), CheckRefusal>
     requires each { length prices.now ≡ length supply.now }
-    requires there { All (λ arc. arc.flow < length flows.now) arcs.now }
-    requires joined { All (λ arc. AreNodes (length prices.now) arc.ends) arcs.now }
-    ensures { result ≡ goes_on_unless (infeasible_refusal supply.now (stages_of flows.now arcs.now) prices.now gap) }
+    requires joined { All (λ arc. AreNodes (length prices.now) (as_stage arc).ends) arcs.now }
+    ensures { result ≡ goes_on_unless (infeasible_refusal supply.now (map as_stage arcs.now) prices.now gap) }
 {
-    check_uppers(prices, flows, arcs)?;
-    check_ends(flows, arcs)?;
-    check_gap(prices, supply, flows, arcs, gap)
+    check_uppers(prices, arcs)?;
+    check_ends(arcs)?;
+    check_gap(prices, supply, arcs, gap)
 }
 
 // As many zeros as there are supplies.
@@ -194,18 +179,16 @@ fn check_falling(
     alloc: Global,
     nodes: usize,
     supply: &[Frac],
-    flows: &[Flow],
     arcs: &[StagedArc],
     ray: &[Frac],
 ) -> Result<(), CheckRefusal>
     requires long { length ray.now ≡ length arcs.now }
-    requires there { All (λ arc. arc.flow < length flows.now) arcs.now }
-    requires joined { All (λ arc. AreNodes (length supply.now) arc.ends) arcs.now }
+    requires joined { All (λ arc. AreNodes (length supply.now) (as_stage arc).ends) arcs.now }
     requires some { 0 < length supply.now → 0 < nodes }
     requires few { length supply.now < 2 ^ 32 }
-    ensures { UnlessMemory result (goes_on_unless (falling_refusal nodes supply.now (stages_of flows.now arcs.now) ray.now)) }
+    ensures { UnlessMemory result (goes_on_unless (falling_refusal nodes supply.now (map as_stage arcs.now) ray.now)) }
 {
-    check_rays(flows, arcs, ray)?;
+    check_rays(arcs, ray)?;
     let by = Balancing {
         row: CheckRow::C6,
         clause: Clause::RayBalance,
@@ -213,5 +196,5 @@ fn check_falling(
     };
     let wanted = zeros(alloc, supply)?;
     check_balance(alloc, by, &wanted, arcs, ray)?;
-    check_ray_cost(flows, arcs, ray)
+    check_ray_cost(arcs, ray)
 }

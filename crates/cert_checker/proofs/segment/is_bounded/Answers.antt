@@ -1,6 +1,6 @@
 use Rattle.std.proofs.Common.{◌∙◌, sym, refl}
 use Rattle.cert_checker.proofs.Segments.{finite_last}
-use Rattle.cert_checker.proofs.segment.has_end.Goals as goal
+use Rattle.cert_checker.proofs.segment.is_bounded.Goals as goal
 
 pub returns-then-is_finite : goal.returns-then-is_finite
 returns-then-is_finite c =

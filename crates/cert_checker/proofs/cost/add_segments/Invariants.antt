@@ -1,8 +1,8 @@
 use Rattle.std.proofs.Common.{◌≡◌, drop}
 use Rattle.std.specs.Prelude.{IsOk}
-use Rattle.np_model.specs.Stages.{segments_beyond}
+use Rattle.np_model.specs.Scheme.Segments.{segments_beyond}
 use Rattle.cert_checker.specs.Walk.{add_segments, end_of}
-use Rattle.cert_checker.proofs.cost.with_bands.Given as goal
+use Rattle.cert_checker.proofs.cost.add_segments.Given as goal
 
 abbrev pub invariant-loop-i : goal.invariant-loop-i
 invariant-loop-i l = record {
