@@ -15,7 +15,7 @@ use Rattle.np_model.specs.Scheme.Segments.{Stage}
 use Rattle.np_model.specs.Scheme.Kinds.{ends_in, is_hold, JoinsNodes}
 use Rattle.np_model.specs.Scheme.Plans.{stage_in, stage_of, staged}
 use Rattle.np_model.proofs.Staged.{staged_each}
-use Rattle.cert_checker.specs.Arcs.{as_stage}
+use Rattle.cert_checker.specs.Steps.Arcs.{as_stage}
 use Rattle.np_model.specs.Network.Arcs.{AreNodes}
 use Rattle.cert_checker.specs.declared.staged.StagedArc.{StagedArc}
 use Rattle.cert_checker.proofs.First.{one_more}

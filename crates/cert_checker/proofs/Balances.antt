@@ -17,11 +17,11 @@ use Rattle.np_model.specs.declared.arc.Ends.TheVariants.{Link}
 use Rattle.np_model.specs.declared.rows.CheckRow.{CheckRow}
 use Rattle.cert_checker.specs.declared.answer.Clause.{Clause}
 use Rattle.np_model.specs.Scheme.Segments.{Stage}
-use Rattle.cert_checker.specs.Sums.{sum_clause}
-use Rattle.cert_checker.specs.Arcs.{as_stage}
+use Rattle.cert_checker.specs.Steps.Parts.{sum_clause}
+use Rattle.cert_checker.specs.Steps.Arcs.{as_stage}
 use Rattle.cert_checker.specs.declared.staged.StagedArc.{StagedArc}
 use Rattle.cert_checker.proofs.Pairs.{bind_same, bind_ok, fold_more}
-use Rattle.cert_checker.specs.Walk.{add_supply, balance_step, outflow_of, with_stage_ends, node_clause, first_refusal, tested, refused_if, reject_node}
+use Rattle.cert_checker.specs.Walk.{add_supply, add_flow, outflow_of, with_stage_ends, node_clause, first_refusal, tested, refused_if, reject_node}
 
 abbrev pub Running : Type 0
 Running = Result Ratio Past
@@ -30,27 +30,27 @@ Running = Result Ratio Past
 pub element_is : {A : Type 0} (xs : List A) (i : ℕ) (r d : A) → i < length xs → r ≡ get_or xs i r → get_or xs i d ≡ r
 element_is xs i r d h e = grind (arith, common_steps, e)
 
-at_tail : (v from to : ℕ) (gain x y : Ratio) → v ≡ from → balance_step v (Link from to gain) x y ≡ plus_of y x
+at_tail : (v from to : ℕ) (gain x y : Ratio) → v ≡ from → add_flow v (Link from to gain) x y ≡ plus_of y x
 at_tail v from to gain x y e = grind (arith, nat_tests)
 
-at_head : (v from to : ℕ) (gain x y : Ratio) → v ≢ from → v ≡ to → balance_step v (Link from to gain) x y ≡ times_of gain x ▷ (λ gained. minus_of y gained)
+at_head : (v from to : ℕ) (gain x y : Ratio) → v ≢ from → v ≡ to → add_flow v (Link from to gain) x y ≡ times_of gain x ▷ (λ gained. minus_of y gained)
 at_head v from to gain x y d e = grind (arith, nat_tests)
 
-apart : (v from to : ℕ) (gain x y : Ratio) → v ≢ from → v ≢ to → balance_step v (Link from to gain) x y ≡ Ok y
+apart : (v from to : ℕ) (gain x y : Ratio) → v ≢ from → v ≢ to → add_flow v (Link from to gain) x y ≡ Ok y
 apart v from to gain x y d e = grind (arith, nat_tests)
 
 -- a link changes the running balances of its two ends alone
 pub link_step : (xs : List Running) (from to v : ℕ) (gain x : Ratio) (r s a b d : Running) → from < length xs → to < length xs → from ≢ to
     → r ≡ get_or xs from r → a ≡ r ▷ (λ sum. plus_of sum x)
     → s ≡ get_or (set xs from a) to s → b ≡ s ▷ (λ sum. times_of gain x ▷ λ gained. minus_of sum gained)
-    → v < length xs → get_or (set (set xs from a) to b) v d ≡ get_or xs v d ▷ balance_step v (Link from to gain) x
+    → v < length xs → get_or (set (set xs from a) to b) v d ≡ get_or xs v d ▷ add_flow v (Link from to gain) x
 link_step xs from to v gain x r s a b d at_from at_to differ r_is a_is s_is b_is below =
     elim (cases_eq v from) [
       | inl e ↦
           let elsewhere : v ≢ to = λ f. differ (sym e ∙ f) in
           let read : get_or xs v d ≡ r = rw e (element_is xs from r d at_from r_is) in
           let written : get_or (set (set xs from a) to b) v d ≡ a = grind (arith, common_steps) in
-          written ∙ a_is ∙ sym (rw read (bind_same r (balance_step v (Link from to gain) x) (λ sum. plus_of sum x) (λ y. at_tail v from to gain x y e)))
+          written ∙ a_is ∙ sym (rw read (bind_same r (add_flow v (Link from to gain) x) (λ sum. plus_of sum x) (λ y. at_tail v from to gain x y e)))
       | inr n ↦ elim (cases_eq v to) [
         | inl e ↦
             let long : to < length (set xs from a) = grind (arith, common_steps) in
@@ -58,10 +58,10 @@ link_step xs from to v gain x r s a b d at_from at_to differ r_is a_is s_is b_is
             let read : get_or xs v d ≡ s = sym before ∙ rw e (element_is (set xs from a) to s d long s_is) in
             let written : get_or (set (set xs from a) to b) v d ≡ b = grind (arith, common_steps) in
             written ∙ b_is
-            ∙ sym (rw read (bind_same s (balance_step v (Link from to gain) x) (λ sum. times_of gain x ▷ λ gained. minus_of sum gained) (λ y. at_head v from to gain x y n e)))
+            ∙ sym (rw read (bind_same s (add_flow v (Link from to gain) x) (λ sum. times_of gain x ▷ λ gained. minus_of sum gained) (λ y. at_head v from to gain x y n e)))
         | inr m ↦
             let kept : get_or (set (set xs from a) to b) v d ≡ get_or xs v d = grind (arith, common_steps) in
-            kept ∙ sym (bind_ok (get_or xs v d) (balance_step v (Link from to gain) x) (λ y. apart v from to gain x y n m))
+            kept ∙ sym (bind_ok (get_or xs v d) (add_flow v (Link from to gain) x) (λ y. apart v from to gain x y n m))
       ]
     ]
 
@@ -102,7 +102,7 @@ length-flows arcs amounts e = omega (arith, length-zip (map (λ (s : Stage). s.e
 
 -- the running balance of a node after one more staged arc
 pub balance_more : (arcs : List StagedArc) (amounts : List Ratio) (i : ℕ) (arc : StagedArc) (x : Ratio) (v : ℕ) (old new : Running) → length amounts ≡ length arcs → i < length arcs
-    → arc ≡ get_or arcs i arc → x ≡ get_or amounts i x → old ≡ outflow_of (take i (flows_of arcs amounts)) v → new ≡ old ▷ balance_step v (as_stage arc).ends x
+    → arc ≡ get_or arcs i arc → x ≡ get_or amounts i x → old ≡ outflow_of (take i (flows_of arcs amounts)) v → new ≡ old ▷ add_flow v (as_stage arc).ends x
     → new ≡ outflow_of (take (i + 1) (flows_of arcs amounts)) v
 balance_more arcs amounts i arc x v old new e h at_arc at_x before after =
     let ends = (as_stage arc).ends in
@@ -114,8 +114,8 @@ balance_more arcs amounts i arc x v old new e h at_arc at_x before after =
     get_or-zip (map (λ (s : Stage). s.ends) stages) amounts i (ends, x) (omega (arith, length-map stages (λ (s : Stage). s.ends))) (omega arith)
     ∙ ap₂ {A = Ends} {B = Ratio} {C = Ends × Ratio} (λ a q. (a, q)) there (sym at_x) in
     after
-    ∙ ap (λ (r : Running). r ▷ balance_step v ends x) before
-    ∙ sym (fold_more (λ running (a, q). running ▷ balance_step v a q) (Ok zero_ratio) (flows_of arcs amounts) i (ends, x) (omega (arith, length-flows arcs amounts e)) pair)
+    ∙ ap (λ (r : Running). r ▷ add_flow v ends x) before
+    ∙ sym (fold_more (λ running (a, q). running ▷ add_flow v a q) (Ok zero_ratio) (flows_of arcs amounts) i (ends, x) (omega (arith, length-flows arcs amounts e)) pair)
 
 pub balance_end : (arcs : List StagedArc) (amounts : List Ratio) (i : ℕ) (v : ℕ) → length amounts ≡ length arcs → length arcs ≤ i → outflow_of (take i (flows_of arcs amounts)) v ≡ outflow_of (flows_of arcs amounts) v
 balance_end arcs amounts i v e h = ap (λ (z : List (Ends × Ratio)). outflow_of z v) (take_all i (flows_of arcs amounts) (omega (arith, length-flows arcs amounts e)))

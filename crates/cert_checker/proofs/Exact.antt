@@ -20,7 +20,7 @@ use Rattle.np_model.specs.Network.Arcs.{coefficient, tail_of, head_of, bound_of,
 use Rattle.np_model.specs.Network.Flows.{outflow, balance, plan_cost, at}
 use Rattle.np_model.specs.Scheme.Segments.{Stage, Segment, end_after, segments_beyond, last_end, last_slope, amount_in, cost_at, hull}
 use Rattle.np_model.specs.Scheme.Convex.{stages_cost, stages_gap}
-use Rattle.cert_checker.specs.Walk.{balance_step, outflow_of, with_stage_ends, band_end, end_of, reduced_of, add_segments, add_cost, cost_of, add_supply, add_worth, add_least, gap_of, add_ray_cost, ray_cost_of}
+use Rattle.cert_checker.specs.Walk.{add_flow, outflow_of, with_stage_ends, band_end, end_of, reduced_of, add_segments, add_cost, cost_of, add_supply, add_worth, add_least, gap_of, add_ray_cost, ray_cost_of}
 
 -- ---- balance
 
@@ -40,7 +40,7 @@ feed_exact : (b : Bool) (x r s : Ratio) → (if b then minus_of r x else Ok r) �
 feed_exact true x r s e = rw (negated-*ᵣ one_ratio x, one-*ᵣ x) (minus_exact r x s e)
 feed_exact false x r s e = rw (zero-*ᵣ x, +ᵣ-zero r) (cc e)
 
-step_exact : (v : ℕ) (ends : Ends) (x r s : Ratio) → balance_step v ends x r ≡ Ok s → s ≡ r +ᵣ coefficient ends v *ᵣ x
+step_exact : (v : ℕ) (ends : Ends) (x r s : Ratio) → add_flow v ends x r ≡ Ok s → s ≡ r +ᵣ coefficient ends v *ᵣ x
 step_exact v (Link from to gain) x r s e = link_exact (v == from) (v == to) gain x r s e
 step_exact v (Drain node) x r s e = drain_exact (v == node) x r s e
 step_exact v (Feed node) x r s e = feed_exact (v == node) x r s e
@@ -61,7 +61,7 @@ module _ {A : Type 0} (step : A → Ratio → Result Ratio Past) (term : A → R
 
 pub outflow_exact : (pairs : List (Ends × Ratio)) (v : ℕ) (s : Ratio) → outflow_of pairs v ≡ Ok s → s ≡ outflow pairs v
 outflow_exact pairs v s e =
-    fold_exact {A = Ends × Ratio} (λ (ends, q). balance_step v ends q) (λ (ends, q). coefficient ends v *ᵣ q) (λ a r t h. step_exact v a.0 a.1 r t h) zero_ratio s pairs e
+    fold_exact {A = Ends × Ratio} (λ (ends, q). add_flow v ends q) (λ (ends, q). coefficient ends v *ᵣ q) (λ a r t h. step_exact v a.0 a.1 r t h) zero_ratio s pairs e
 
 -- hulls have the ends of their stages
 hull_ends : (stages : List Stage) → map (λ (s : Stage). s.ends) stages ≡ map (λ (a : NetArc). a.ends) (map hull stages)

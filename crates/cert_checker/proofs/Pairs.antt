@@ -10,7 +10,7 @@ use Rattle.np_frac.specs.declared.frac.Past.{Past}
 use Rattle.np_model.specs.Scheme.Segments.{Stage}
 use Rattle.np_frac.specs.Exact.{◌▷◌}
 use Rattle.cert_checker.specs.Walk.{first_refusal, goes_on_unless}
-use Rattle.cert_checker.specs.Arcs.{as_stage}
+use Rattle.cert_checker.specs.Steps.Arcs.{as_stage}
 use Rattle.cert_checker.specs.declared.staged.StagedArc.{StagedArc}
 use Rattle.cert_checker.specs.declared.answer.CheckRefusal.{CheckRefusal}
 use Rattle.cert_checker.proofs.First.{one_more, goes_on, stops, finds_none}

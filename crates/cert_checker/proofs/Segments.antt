@@ -14,7 +14,7 @@ use Rattle.np_model.specs.declared.scheme.Band.{Band}
 use Rattle.np_model.specs.Scheme.Segments.{Segment as TheSegment, end_after, segments_beyond, last_end, last_slope}
 use Rattle.np_model.specs.Network.Arcs.{lesser, is_finite}
 use Rattle.cert_checker.specs.Walk.{or_then, first_refusal, goes_on_unless, end_of, add_segments}
-use Rattle.cert_checker.specs.Sums.{end_beyond, segment_beyond, add_segment}
+use Rattle.cert_checker.specs.Steps.Parts.{end_beyond, segment_beyond, add_segment}
 use Rattle.cert_checker.specs.declared.answer.CheckRefusal.{CheckRefusal}
 use Rattle.cert_checker.proofs.Exact.{band_exact}
 use Rattle.cert_checker.proofs.Pairs.{bind_same, bind_twice}

@@ -19,7 +19,7 @@ use Rattle.np_model.specs.Network.Flows.{at, balance}
 use Rattle.np_model.specs.Scheme.Segments.{Stage, Segment, segments, last_end, hull}
 use Rattle.np_model.specs.Scheme.Convex.{stages_cost, stages_gap, StagesFeasible, StagesShow, StagesImpossible, StagesRay, IsKink}
 use Rattle.cert_checker.specs.Walk.{tested, refused_if, or_then, first_refusal, outflow_of, node_clause, balance_clauses, bound_clause, end_of, reduced_of, left_test, right_test, reduced_clause, cost_of, cost_clause, reject_node, upper_clause, end_clause, gap_of, gap_clause, ray_clause, ray_balance_clauses, ray_cost_of, ray_cost_clause, feasible_refusal, shown_refusal, infeasible_refusal, falling_refusal, with_stage_ends}
-use Rattle.cert_checker.specs.Sums.{EndsFit}
+use Rattle.cert_checker.specs.Steps.Parts.{EndsFit}
 use Rattle.cert_checker.specs.declared.answer.Clause.{Clause}
 use Rattle.cert_checker.specs.declared.answer.Clause.TheVariants.{Balance, RayBalance}
 use Rattle.cert_checker.specs.declared.answer.CheckRefusal.{CheckRefusal}

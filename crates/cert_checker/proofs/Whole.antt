@@ -12,8 +12,8 @@ use Rattle.np_model.specs.Scheme.Plans.{staged}
 use Rattle.np_model.specs.Scheme.Fits.{FitsAs, PlanFits}
 use Rattle.cert_checker.specs.Walk.{walk, walk_as, amount_of, or_then, feasible_refusal, shown_refusal, optimal_refusal, infeasible_refusal, falling_refusal, unbounded_refusal, accepted_unless, goes_on_unless, UnlessMemory}
 use Rattle.np_model.specs.Network.Arcs.{AreNodes}
-use Rattle.cert_checker.specs.Sums.{EndsFit}
-use Rattle.cert_checker.specs.Arcs.{as_stage}
+use Rattle.cert_checker.specs.Steps.Parts.{EndsFit}
+use Rattle.cert_checker.specs.Steps.Arcs.{as_stage}
 use Rattle.cert_checker.specs.declared.staged.StagedArc.{StagedArc}
 use Rattle.cert_checker.specs.declared.answer.CheckRefusal.{CheckRefusal}
 use Rattle.cert_checker.specs.declared.answer.Checked.{Checked}
@@ -61,17 +61,17 @@ module _ (a b : Option CheckRefusal) (w : Result Checked CheckRefusal) (x : Chec
   first_refuses r res told e = rw is (whole_refused (or_then a b) x r (Err r) (first_part a b r res told e) refl)
 
   pub next_refuses : (r : CheckRefusal) (res : Result (Unit {0}) CheckRefusal) → a ≡ None → UnlessMemory res (goes_on_unless b) → res ≡ Err r → UnlessMemory (Err r) w
-  next_refuses r res passed told e = rw is (whole_refused (or_then a b) x r res (next_part a b res passed told) e)
+  next_refuses r res first told e = rw is (whole_refused (or_then a b) x r res (next_part a b res first told) e)
 
-  pub both_pass : a ≡ None → b ≡ None → Ok x ≡ w
-  both_pass passed last = rw (is, passed, last) refl
+  pub both_hold : a ≡ None → b ≡ None → Ok x ≡ w
+  both_hold first last = rw (is, first, last) refl
 
 -- and one of one part
 pub one_refuses : (a : Option CheckRefusal) (w : Result Checked CheckRefusal) (x : Checked) → w ≡ accepted_unless a x → (r : CheckRefusal) (res : Result (Unit {0}) CheckRefusal) → UnlessMemory res (goes_on_unless a) → res ≡ Err r → UnlessMemory (Err r) w
 one_refuses a w x is r res told e = rw is (whole_refused a x r res told e)
 
-pub one_passes : (a : Option CheckRefusal) (w : Result Checked CheckRefusal) (x : Checked) → w ≡ accepted_unless a x → a ≡ None → Ok x ≡ w
-one_passes a w x is passed = rw (is, passed) refl
+pub one_holds : (a : Option CheckRefusal) (w : Result Checked CheckRefusal) (x : Checked) → w ≡ accepted_unless a x → a ≡ None → Ok x ≡ w
+one_holds a w x is none = rw (is, none) refl
 
 -- ---- from the lists to the scheme and the plan
 

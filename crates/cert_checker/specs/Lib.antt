@@ -1,5 +1,5 @@
 pub mod Walk
-pub mod Sums
 pub mod Proves
 pub mod Laws
-pub mod Arcs
+pub mod Words
+pub mod Steps

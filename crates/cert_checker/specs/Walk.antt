@@ -52,15 +52,15 @@ first_refusal clause (x ∷ xs) = or_then (clause x) (first_refusal clause xs)
 -- ---- balance, with the operations of C1
 
 -- the running balance of a node after an arc with these ends and this flow: one that does not touch the node leaves it
-abbrev pub balance_step : ℕ → Ends → Ratio → Ratio → Result Ratio Past
-balance_step v (Link from to gain) x running =
+abbrev pub add_flow : ℕ → Ends → Ratio → Ratio → Result Ratio Past
+add_flow v (Link from to gain) x running =
     if v == from then plus_of running x else (if v == to then (times_of gain x ▷ λ gained. minus_of running gained) else Ok running)
-balance_step v (Drain at) x running = if v == at then plus_of running x else Ok running
-balance_step v (Feed at) x running = if v == at then minus_of running x else Ok running
+add_flow v (Drain at) x running = if v == at then plus_of running x else Ok running
+add_flow v (Feed at) x running = if v == at then minus_of running x else Ok running
 
 -- the outflow of a node, over the ends and amounts in order
 abbrev pub outflow_of : List (Ends × Ratio) → ℕ → Result Ratio Past
-outflow_of pairs v = fold (λ running (ends, x). running ▷ balance_step v ends x) (Ok zero_ratio) pairs
+outflow_of pairs v = fold (λ running (ends, x). running ▷ add_flow v ends x) (Ok zero_ratio) pairs
 
 -- with k nodes, the refusal at an expanded node
 abbrev pub reject_node : Clause → ℕ → ℕ → CheckRefusal

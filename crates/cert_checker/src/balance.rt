@@ -6,10 +6,10 @@ ghost use Rattle.np_frac.specs.Exact.{plus_of, minus_of, times_of, ◌▷◌};
 ghost use Rattle.np_model.specs.declared.arc.Ends.{Ends as TheEnds};
 ghost use Rattle.np_frac.specs.declared.frac.Past.{Past as ThePast};
 ghost use Rattle.np_frac.specs.Ratio.{Ratio, zero_ratio};
-ghost use Rattle.cert_checker.specs.Walk.{balance_step, outflow_of, with_stage_ends, node_clause, first_refusal, goes_on_unless, UnlessMemory};
-ghost use Rattle.cert_checker.specs.Sums.{sum_clause};
+ghost use Rattle.cert_checker.specs.Walk.{add_flow, outflow_of, with_stage_ends, node_clause, first_refusal, goes_on_unless, UnlessMemory};
+ghost use Rattle.cert_checker.specs.Steps.Parts.{sum_clause};
 ghost use Rattle.np_model.specs.Network.Arcs.{AreNodes};
-ghost use Rattle.cert_checker.specs.Arcs.{as_stage};
+ghost use Rattle.cert_checker.specs.Steps.Arcs.{as_stage};
 
 use crate::answer::{CheckRefusal, Clause};
 use crate::staged::StagedArc;
@@ -46,7 +46,7 @@ fn subtract_gained(running: Result<Frac, Past>, gain: Frac, amount: Frac) -> Res
 fn add_flow(running: &mut [Result<Frac, Past>], ends: Ends, amount: Frac)
     requires { AreNodes (length running.old) ends }
     ensures { (v : ℕ) (d : Result Ratio ThePast) → v < length running.old
-        → slice_index_or running.new v d ≡ slice_index_or running.old v d ▷ balance_step v ends amount }
+        → slice_index_or running.new v d ≡ slice_index_or running.old v d ▷ add_flow v ends amount }
 {
     match ends {
         Ends::Link { from, to, gain } => {
@@ -62,8 +62,8 @@ fn add_flow(running: &mut [Result<Frac, Past>], ends: Ends, amount: Frac)
     }
 }
 
-// The running balance of each node over the staged arcs: the sum, or its first operation that passes.
-fn balances(
+// The outflow of each node over the staged arcs: the sum, or its first operation that overflows.
+fn outflows(
     alloc: Global,
     nodes: usize,
     arcs: &[StagedArc],
@@ -149,7 +149,7 @@ fn check_sums(
 }
 
 /// Whether the amounts of the staged arcs balance what is wanted at each node: the first node at which they do not, or at
-/// which an operation passes.
+/// which an operation overflows.
 pub fn check_balance(
     alloc: Global,
     by: Balancing,
@@ -163,6 +163,6 @@ pub fn check_balance(
     requires few { length wanted.now < 2 ^ 32 }
     ensures { UnlessMemory result (goes_on_unless (first_refusal (node_clause by.row by.clause by.nodes (with_stage_ends (map as_stage arcs.now) amounts.now)) (enumerate_from 0 wanted.now))) }
 {
-    let sums = balances(alloc, wanted.len(), arcs, amounts)?;
+    let sums = outflows(alloc, wanted.len(), arcs, amounts)?;
     check_sums(by, wanted, &sums)
 }

@@ -3,7 +3,7 @@
 ghost use Rattle.std.specs.Prelude.{◌≡◌, length, map};
 ghost use Rattle.std.specs.List.{zip};
 ghost use Rattle.cert_checker.specs.Walk.{bound_clause, first_refusal, goes_on_unless};
-ghost use Rattle.cert_checker.specs.Arcs.{as_stage};
+ghost use Rattle.cert_checker.specs.Steps.Arcs.{as_stage};
 
 use crate::answer::{CheckRefusal, Clause};
 use crate::segment::end_of;
@@ -29,7 +29,7 @@ fn check_bound(arc: &StagedArc, amount: Frac) -> Result<(), CheckRefusal>
     }
 }
 
-/// Whether all flows keep their bounds: the first that does not, or whose ends pass.
+/// Whether all flows keep their bounds: the first that does not, or of which an end overflows.
 pub fn check_bounds(arcs: &[StagedArc], amounts: &[Frac]) -> Result<(), CheckRefusal>
     requires { length amounts.now ≡ length arcs.now }
     ensures { result ≡ goes_on_unless (first_refusal bound_clause (zip (map as_stage arcs.now) amounts.now)) }

@@ -5,8 +5,8 @@ ghost use Rattle.std.specs.List.{All, zip};
 ghost use Rattle.np_model.specs.Network.Arcs.{lesser};
 ghost use Rattle.np_model.specs.Scheme.Segments.{segments_beyond};
 ghost use Rattle.cert_checker.specs.Walk.{end_of, add_cost, add_segments, cost_of, cost_clause, goes_on_unless};
-ghost use Rattle.cert_checker.specs.Sums.{EndsFit, as_segment, add_segment};
-ghost use Rattle.cert_checker.specs.Arcs.{as_stage};
+ghost use Rattle.cert_checker.specs.Steps.Parts.{EndsFit, as_segment, add_segment};
+ghost use Rattle.cert_checker.specs.Steps.Arcs.{as_stage};
 
 use crate::answer::{CheckRefusal, Clause};
 use crate::segment::{Segment, segment_beyond};

@@ -6,7 +6,7 @@ ghost use Rattle.np_frac.specs.Ratio.{zero_ratio};
 ghost use Rattle.np_frac.specs.Exact.{plus_of, times_of, ◌▷◌};
 ghost use Rattle.np_model.specs.Network.Arcs.{bound_of, AreNodes};
 ghost use Rattle.cert_checker.specs.Walk.{upper_clause, end_clause, add_supply, add_worth, add_least, gap_of, gap_clause, first_refusal, goes_on_unless};
-ghost use Rattle.cert_checker.specs.Arcs.{as_stage};
+ghost use Rattle.cert_checker.specs.Steps.Arcs.{as_stage};
 
 use crate::answer::{CheckRefusal, Clause};
 use crate::reduced::reduced_of;
@@ -36,7 +36,7 @@ fn check_upper(prices: &[Frac], arc: &StagedArc) -> Result<(), CheckRefusal>
 }
 
 /// Whether all flows have finite last ends where their reduced costs at costs of 0 are below 0: the first that has not, or
-/// at which an operation passes.
+/// at which an operation overflows.
 pub fn check_uppers(prices: &[Frac], arcs: &[StagedArc]) -> Result<(), CheckRefusal>
     requires { All (λ arc. AreNodes (length prices.now) (as_stage arc).ends) arcs.now }
     ensures { result ≡ goes_on_unless (first_refusal (upper_clause prices.now) (map as_stage arcs.now)) }
@@ -60,7 +60,7 @@ fn check_end(arc: &StagedArc) -> Result<(), CheckRefusal>
     }
 }
 
-/// Whether the ends of all flows are found: the first sum that passes.
+/// Whether the ends of all flows are found: the first sum that overflows.
 pub fn check_ends(arcs: &[StagedArc]) -> Result<(), CheckRefusal>
     ensures { result ≡ goes_on_unless (first_refusal end_clause (map as_stage arcs.now)) }
 {

@@ -3,7 +3,7 @@
 ghost use Rattle.std.specs.Prelude.{◌≡◌, length, map};
 ghost use Rattle.std.specs.List.{zip};
 ghost use Rattle.cert_checker.specs.Walk.{ray_clause, add_ray_cost, ray_cost_of, ray_cost_clause, first_refusal, goes_on_unless};
-ghost use Rattle.cert_checker.specs.Arcs.{as_stage};
+ghost use Rattle.cert_checker.specs.Steps.Arcs.{as_stage};
 
 use crate::answer::{CheckRefusal, Clause};
 use crate::segment::{is_bounded, last_slope};

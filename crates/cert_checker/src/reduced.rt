@@ -4,9 +4,9 @@ ghost use Rattle.std.specs.Prelude.{◌≡◌, length, map};
 ghost use Rattle.std.specs.List.{All, zip};
 ghost use Rattle.np_model.specs.Scheme.Segments.{segments, segments_beyond};
 ghost use Rattle.cert_checker.specs.Walk.{reduced_of, reduced_clause, first_refusal, goes_on_unless};
-ghost use Rattle.cert_checker.specs.Sums.{EndsFit, as_segment, is_beside, has_wrong_sign, side_test};
+ghost use Rattle.cert_checker.specs.Steps.Parts.{EndsFit, as_segment, is_beside, has_wrong_sign, side_test};
 ghost use Rattle.np_model.specs.Network.Arcs.{AreNodes};
-ghost use Rattle.cert_checker.specs.Arcs.{as_stage};
+ghost use Rattle.cert_checker.specs.Steps.Arcs.{as_stage};
 
 use crate::answer::{CheckRefusal, Clause};
 use crate::segment::{Segment, segment_beyond};
@@ -138,7 +138,7 @@ fn check_arc(prices: &[Frac], arc: &StagedArc, amount: Frac) -> Result<(), Check
     check_side(Side::Right, prices, arc, amount)
 }
 
-/// Whether the prices show all amounts optimal: the first flow of which they do not, or at which an operation passes.
+/// Whether the prices show all amounts optimal: the first flow of which they do not, or at which an operation overflows.
 pub fn check_reduced(
     prices: &[Frac],
     arcs: &[StagedArc],

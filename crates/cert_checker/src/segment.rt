@@ -5,7 +5,7 @@ ghost use Rattle.std.specs.List.{list_all};
 ghost use Rattle.np_model.specs.Scheme.Segments.{last_end, last_slope};
 ghost use Rattle.np_model.specs.Network.Arcs.{is_finite, is_under};
 ghost use Rattle.cert_checker.specs.Walk.{band_end, end_of};
-ghost use Rattle.cert_checker.specs.Sums.{map_segment, end_beyond, segment_beyond};
+ghost use Rattle.cert_checker.specs.Steps.Parts.{map_segment, end_beyond, segment_beyond};
 
 use np_frac::{Frac, Past};
 use np_model::{Band, Flow, Upper};

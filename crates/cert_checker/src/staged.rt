@@ -5,7 +5,7 @@ ghost use Rattle.std.specs.List.{filter_map, enumerate_from};
 ghost use Rattle.np_model.specs.Scheme.Kinds.{is_hold, JoinsNodes};
 ghost use Rattle.np_model.specs.Scheme.Plans.{stage_in, stage_of, staged};
 ghost use Rattle.cert_checker.specs.Walk.{reject_stage};
-ghost use Rattle.cert_checker.specs.Arcs.{as_stage};
+ghost use Rattle.cert_checker.specs.Steps.Arcs.{as_stage};
 
 use crate::answer::{CheckRefusal, Clause};
 use np_frac::Memory;

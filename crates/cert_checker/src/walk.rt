@@ -7,8 +7,8 @@ ghost use Rattle.np_model.specs.declared.plan.Verdict.TheVariants as verdict;
 ghost use Rattle.np_model.specs.Scheme.Fits.{PlanFits};
 ghost use Rattle.cert_checker.specs.Walk.{walk, amount_of, feasible_refusal, shown_refusal, infeasible_refusal, falling_refusal, goes_on_unless, UnlessMemory};
 ghost use Rattle.cert_checker.specs.declared.answer.Checked.TheVariants as checked;
-ghost use Rattle.cert_checker.specs.Arcs.{as_stage};
-ghost use Rattle.cert_checker.specs.Sums.{EndsFit};
+ghost use Rattle.cert_checker.specs.Steps.Arcs.{as_stage};
+ghost use Rattle.cert_checker.specs.Steps.Parts.{EndsFit};
 ghost use Rattle.np_model.specs.Network.Arcs.{AreNodes};
 ghost use Rattle.cert_checker.specs.Proves.{Proves};
 
@@ -30,9 +30,9 @@ use std::alloc::Global;
 /// It walks the clauses of the plan's verdict in order. Of an optimal plan these are `balance` at each node, `bound` and then
 /// `reduced` at each staged arc, and `cost`; of an infeasible one `upper` at each staged arc, and `gap`; of an unbounded one
 /// `balance` and `bound`, `ray-sign` and `ray-upper` at each staged arc, `ray-balance` at each node, and `ray-cost`. A plan
-/// whose budget ended or whose numbers passed is `uncertified`. The answer is what the plan was shown to be, or the first clause
-/// that fails, or the first operation whose exact result does not fit a fraction, whichever stands first in the walk. It takes
-/// time and memory in proportion to the nodes, the staged arcs and their bands.
+/// whose budget ended, or of which an operation overflowed, is `uncertified`. The answer is what the plan was shown to be, or the
+/// first clause that fails, or the first operation that overflows, whose exact result does not fit a fraction, whichever stands
+/// first in the walk. It takes time and memory in proportion to the nodes, the staged arcs and their bands.
 ///
 /// What it accepts holds among all lists of ratios, within 128 bits or not: no feasible plan costs less than an optimal one,
 /// there is no feasible plan, or every cost has a feasible plan that costs less.

@@ -2,7 +2,7 @@ use Rattle.std.proofs.Common.{◌∙◌, sym, arith}
 use Rattle.std.proofs.lemmas.Result.{err_from_is_err_and}
 use Rattle.np_model.specs.Scheme.Segments.{segments_beyond}
 use Rattle.cert_checker.specs.Walk.{add_segments}
-use Rattle.cert_checker.specs.Sums.{as_segment}
+use Rattle.cert_checker.specs.Steps.Parts.{as_segment}
 use Rattle.cert_checker.proofs.Segments.{band_ok, bands_ok, cost_on, cost_stop, cost_none, cost_end}
 use Rattle.cert_checker.proofs.cost.add_segments.Goals as goal
 

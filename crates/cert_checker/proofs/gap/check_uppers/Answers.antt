@@ -2,7 +2,7 @@ use Rattle.std.proofs.Common.{arith, length}
 use Rattle.std.proofs.lemmas.Result.{err_from_is_err_and}
 use Rattle.np_model.specs.Network.Arcs.{AreNodes}
 use Rattle.cert_checker.specs.Walk.{upper_clause}
-use Rattle.cert_checker.specs.Arcs.{as_stage}
+use Rattle.cert_checker.specs.Steps.Arcs.{as_stage}
 use Rattle.cert_checker.proofs.Pairs.{arc_here, arcs_go_on, arcs_stop, arcs_end}
 use Rattle.cert_checker.proofs.gap.check_uppers.Goals as goal
 

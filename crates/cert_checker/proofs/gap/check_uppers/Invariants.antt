@@ -1,6 +1,6 @@
 use Rattle.std.proofs.Common.{◌≡◌, None, take, map}
 use Rattle.cert_checker.specs.Walk.{upper_clause, first_refusal}
-use Rattle.cert_checker.specs.Arcs.{as_stage}
+use Rattle.cert_checker.specs.Steps.Arcs.{as_stage}
 use Rattle.cert_checker.proofs.gap.check_uppers.Given as goal
 
 abbrev pub invariant-loop-i : goal.invariant-loop-i

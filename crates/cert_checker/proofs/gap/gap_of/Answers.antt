@@ -4,7 +4,7 @@ use Rattle.std.specs.List.{enumerate_from}
 use Rattle.np_frac.specs.Ratio.{zero_ratio}
 use Rattle.np_model.specs.Network.Arcs.{AreNodes}
 use Rattle.cert_checker.specs.Walk.{add_supply, add_least}
-use Rattle.cert_checker.specs.Arcs.{as_stage}
+use Rattle.cert_checker.specs.Steps.Arcs.{as_stage}
 use Rattle.cert_checker.proofs.Pairs.{arc_here, arc_runs, length-stages, run, run_stops, run_ends}
 use Rattle.cert_checker.proofs.gap.gap_of.Goals as goal
 

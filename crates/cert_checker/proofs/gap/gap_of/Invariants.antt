@@ -2,7 +2,7 @@ use Rattle.std.proofs.Common.{◌≡◌, Ok, take, map}
 use Rattle.std.specs.List.{enumerate_from}
 use Rattle.np_frac.specs.Ratio.{zero_ratio}
 use Rattle.cert_checker.specs.Walk.{add_supply, add_least}
-use Rattle.cert_checker.specs.Arcs.{as_stage}
+use Rattle.cert_checker.specs.Steps.Arcs.{as_stage}
 use Rattle.cert_checker.proofs.Pairs.{run}
 use Rattle.cert_checker.proofs.gap.gap_of.Given as goal
 

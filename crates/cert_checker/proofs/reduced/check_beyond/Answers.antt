@@ -2,8 +2,8 @@ use Rattle.std.proofs.Common.{sym, arith}
 use Rattle.std.proofs.lemmas.Result.{err_from_is_err_and}
 use Rattle.np_model.specs.Scheme.Segments.{segments_beyond}
 use Rattle.cert_checker.specs.Walk.{first_refusal}
-use Rattle.cert_checker.specs.Sums.{as_segment, side_test}
-use Rattle.cert_checker.specs.Arcs.{as_stage}
+use Rattle.cert_checker.specs.Steps.Parts.{as_segment, side_test}
+use Rattle.cert_checker.specs.Steps.Arcs.{as_stage}
 use Rattle.cert_checker.proofs.First.{accepted_ok, accepted_err}
 use Rattle.cert_checker.proofs.Segments.{band_ok, bands_ok, refusal_on, refusal_stop, refusal_none, refusal_end}
 use Rattle.cert_checker.proofs.reduced.check_beyond.Goals as goal

@@ -2,8 +2,8 @@ use Rattle.std.proofs.Common.{◌≡◌, drop}
 use Rattle.std.specs.Prelude.{IsOk}
 use Rattle.np_model.specs.Scheme.Segments.{segments_beyond}
 use Rattle.cert_checker.specs.Walk.{first_refusal, end_of}
-use Rattle.cert_checker.specs.Sums.{side_test}
-use Rattle.cert_checker.specs.Arcs.{as_stage}
+use Rattle.cert_checker.specs.Steps.Parts.{side_test}
+use Rattle.cert_checker.specs.Steps.Arcs.{as_stage}
 use Rattle.cert_checker.proofs.reduced.check_beyond.Given as goal
 
 abbrev pub invariant-loop-i : goal.invariant-loop-i

@@ -2,8 +2,8 @@ use Rattle.std.proofs.Common.{arith, length}
 use Rattle.std.proofs.lemmas.Result.{err_from_is_err_and}
 use Rattle.np_model.specs.Network.Arcs.{AreNodes}
 use Rattle.cert_checker.specs.Walk.{reduced_clause}
-use Rattle.cert_checker.specs.Sums.{EndsFit}
-use Rattle.cert_checker.specs.Arcs.{as_stage}
+use Rattle.cert_checker.specs.Steps.Parts.{EndsFit}
+use Rattle.cert_checker.specs.Steps.Arcs.{as_stage}
 use Rattle.cert_checker.proofs.Pairs.{arc_here, stage_here, pairs_go_on, pairs_stop, pairs_end}
 use Rattle.cert_checker.proofs.reduced.check_reduced.Goals as goal
 

@@ -2,7 +2,7 @@ use Rattle.std.proofs.Common.{◌∙◌, sym, ap, arith}
 use Rattle.std.proofs.lemmas.Result.{err_from_is_err_and}
 use Rattle.np_model.specs.declared.scheme.Band.{Band}
 use Rattle.cert_checker.specs.Walk.{end_of}
-use Rattle.cert_checker.specs.Sums.{end_beyond}
+use Rattle.cert_checker.specs.Steps.Parts.{end_beyond}
 use Rattle.cert_checker.proofs.Segments.{ends_on, ends_stop, ends_end}
 use Rattle.cert_checker.proofs.segment.end_of.Goals as goal
 

@@ -1,6 +1,6 @@
 use Rattle.std.proofs.Common.{◌++◌, ◌∙◌, List, length, map, ap, arith}
 use Rattle.np_model.specs.Scheme.Segments.{Stage}
-use Rattle.cert_checker.specs.Arcs.{as_stage}
+use Rattle.cert_checker.specs.Steps.Arcs.{as_stage}
 use Rattle.cert_checker.proofs.Arcs.{skips, adds, period_ends}
 use Rattle.cert_checker.proofs.staged.add_period.Goals as goal
 

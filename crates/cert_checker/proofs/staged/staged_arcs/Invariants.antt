@@ -1,7 +1,7 @@
 use Rattle.std.proofs.Common.{◌≡◌, length, map}
 use Rattle.std.specs.List.{flat_map, filter_map, range_with_len, enumerate_from}
 use Rattle.np_model.specs.Scheme.Plans.{stage_of}
-use Rattle.cert_checker.specs.Arcs.{as_stage}
+use Rattle.cert_checker.specs.Steps.Arcs.{as_stage}
 use Rattle.cert_checker.proofs.staged.staged_arcs.Given as goal
 
 abbrev pub invariant-loop-before : goal.invariant-loop-before

@@ -6,8 +6,8 @@ use Rattle.np_frac.specs.Ratio.{Ratio, zero_ratio}
 use Rattle.np_model.specs.declared.rows.CheckRow.TheVariants.{C6}
 use Rattle.cert_checker.specs.declared.answer.Clause.TheVariants.{RayBalance}
 use Rattle.cert_checker.specs.Walk.{ray_clause, node_clause, with_stage_ends, first_refusal, goes_on_unless, UnlessMemory}
-use Rattle.cert_checker.specs.Arcs.{as_stage}
-use Rattle.cert_checker.proofs.First.{as_meant, accepted_ok, first_part, next_part, part_passes}
+use Rattle.cert_checker.specs.Steps.Arcs.{as_stage}
+use Rattle.cert_checker.proofs.First.{as_meant, accepted_ok, first_part, next_part, part_holds}
 use Rattle.cert_checker.proofs.walk.check_falling.Goals as goal
 
 pub returns-in_err-check_balance : goal.returns-in_err-check_balance
@@ -28,5 +28,5 @@ returns c =
     let balanced = subst (λ (wanted : List Ratio). UnlessMemory c.check_balance.result (goes_on_unless (first_refusal (node_clause C6 RayBalance c.args.nodes flows) (enumerate_from 0 wanted)))) zeros c.check_balance.ensures in
     let signed = accepted_ok (first_refusal ray_clause pairs) c.in_ok-check_rays.field-0 c.check_rays.result c.check_rays.ensures c.in_ok-check_rays.was in
     next_part _ _ c.check_ray_cost.result signed
-    (next_part _ _ c.check_ray_cost.result (part_passes _ c.in_ok-check_balance.field-0 c.check_balance.result balanced c.in_ok-check_balance.was)
+    (next_part _ _ c.check_ray_cost.result (part_holds _ c.in_ok-check_balance.field-0 c.check_balance.result balanced c.in_ok-check_balance.was)
     (as_meant c.check_ray_cost.result _ c.check_ray_cost.ensures))

@@ -1,4 +1,4 @@
--- The walk over the lists that the checker keeps: clauses of values that are known.
+-- Parts of the walk as the code's functions compute them: clauses of values that are known, and segments one by one.
 use Rattle.std.specs.Prelude.{ℕ, not, ◌&&◌, Bool, if◌then◌else◌, Option, Some, None, Result, Ok, IsOk, List}
 use Rattle.np_frac.specs.Ratio.{Ratio, zero_ratio, is_below}
 use Rattle.np_frac.specs.Order.{ratio_eq}

@@ -1,7 +1,7 @@
 use Rattle.std.proofs.Common.{◌≡◌, ℕ, ◌<◌, Result, Ok, length, slice_index_or}
 use Rattle.np_frac.specs.declared.frac.Past.{Past as ThePast}
 use Rattle.np_frac.specs.Ratio.{Ratio, zero_ratio}
-use Rattle.cert_checker.proofs.balance.balances.Given as goal
+use Rattle.cert_checker.proofs.balance.outflows.Given as goal
 
 abbrev pub invariant-loop : goal.invariant-loop
 invariant-loop l = record {
