@@ -26,3 +26,4 @@ mod OneScheme
 pub mod CountWithin
 mod WrittenTexts
 mod SmallScheme
+mod Stands

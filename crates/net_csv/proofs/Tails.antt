@@ -42,7 +42,8 @@ whole-plan rows after t count h ready = record { told = told-plan rows after t c
 pub whole-nothing : (rows : List (List (List ℕ))) (t : Tables) (count : ℕ) → IsTextRead rows [] t count → IsReady t → IsWholeRead tail.Nothing rows t count
 whole-nothing rows t count h ready = record { told = told-nothing rows t count h; tables = h.tables; ready = ready }
 
-scheme-of : (rows : List (List (List ℕ))) (tables : Tables) (scheme : Scheme) → tables ≡ tables_of (periods_in rows) (body_of rows) → IsMadeOf tables scheme → IsSchemeOf rows scheme
+-- the scheme that is made of the tables of a text
+pub scheme-of : (rows : List (List (List ℕ))) (tables : Tables) (scheme : Scheme) → tables ≡ tables_of (periods_in rows) (body_of rows) → IsMadeOf tables scheme → IsSchemeOf rows scheme
 unfolding tables_of
 scheme-of rows tables scheme e m =
     let made : IsMadeOf (tables_of (periods_in rows) (body_of rows)) scheme = subst (λ (t : Tables). IsMadeOf t scheme) e m in

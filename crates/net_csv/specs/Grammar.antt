@@ -92,3 +92,7 @@ pub record IsSchemeOf (rows : List (List (List ℕ))) (scheme : Scheme) : Type 0
   pub nodes : scheme.nodes ≡ node_names (body_of rows)
   pub supply : scheme.supply ≡ map (supply_at (body_of rows)) (range_with_len 0 (periods_in rows * length (node_names (body_of rows))))
   pub flows : scheme.flows ≡ flows_of (body_of rows)
+
+-- the records are those of some scheme
+abbrev pub StandsForAScheme : List (List (List ℕ)) → Type 0
+StandsForAScheme rows = (scheme : Scheme) × IsSchemeOf rows scheme
