@@ -13,7 +13,7 @@ use Rattle.np_records.specs.Faults.{unless}
 use Rattle.net_csv.specs.Fields.{used_fault}
 use Rattle.net_csv.specs.Network.{is_kind, is_flow, node_names, flow_names, flows_of, defined_node, defined_flow}
 use Rattle.net_csv.specs.Faults.{body_fault, supply_fault, flow_fault, piece_fault, kind_fault, head_fault}
-use Rattle.net_csv.specs.Tables.{tables_of, with_record}
+use Rattle.net_csv.specs.Steps.Tables.{tables_of, with_record}
 use Rattle.net_csv.proofs.Places.{all-push}
 use Rattle.net_csv.proofs.RowKinds.{IsFine, kind-is, fine-kept, all_fine-kept}
 use Rattle.net_csv.proofs.Steps.{flow-apart, tables-node, tables-supply, tables-flow, tables-piece}

@@ -31,7 +31,7 @@ use Rattle.np_records.specs.Faults.{unless}
 use Rattle.net_csv.specs.Fields.{fields_fault, period_fault, new_fault, used_fault, amount_fault, is_all, is_period, period_of, upper_fault, gain_fault, upper_of, place_in, is_infinite, is_number}
 use Rattle.net_csv.specs.Network.{is_kind, is_flow, kind_in, bounds_place}
 use Rattle.net_csv.specs.Faults.{is_at_most, is_wide, is_finite, has_finite_end, present_slope, record_fault, kind_fault, flow_fields, numbers_fault, ends_fault, bounds_fault, head_fault, flow_fault, band_fault, band_of, piece_fault, node_fault, supply_fault, nodes_fault}
-use Rattle.net_csv.specs.Tables.{Tables, no_tables, AreKept, IsGiven, supply_of, with_record, with_node, with_supply, with_flow, with_piece, band_added, banded, plain_flow, numbers_of}
+use Rattle.net_csv.specs.Steps.Tables.{Tables, no_tables, AreKept, IsGiven, supply_of, with_record, with_node, with_supply, with_flow, with_piece, band_added, banded, plain_flow, numbers_of}
 use Rattle.net_csv.proofs.FieldFacts.{amount-reads}
 use Rattle.np_records.proofs.FaultFacts.{or-first, or-rest, unless-none}
 use Rattle.net_csv.proofs.Fine.{used-some}

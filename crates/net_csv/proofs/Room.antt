@@ -16,7 +16,7 @@ use Rattle.np_records.specs.Faults.{unless}
 use Rattle.net_csv.specs.Fields.{amount_fault, upper_fault, used_fault, fields_fault, place_in}
 use Rattle.net_csv.specs.Network.{is_kind, is_flow, kind_in, bounds_place}
 use Rattle.net_csv.specs.Faults.{record_fault, piece_fault, nodes_fault, arcs_fault, band_fault, band_of, head_fault, present_slope, is_wide, has_finite_end}
-use Rattle.net_csv.specs.Tables.{Tables, HasRoom, with_record, with_node, with_supply, with_flow, with_piece, band_added, banded, plain_flow, numbers_of}
+use Rattle.net_csv.specs.Steps.Tables.{Tables, HasRoom, with_record, with_node, with_supply, with_flow, with_piece, band_added, banded, plain_flow, numbers_of}
 
 le-times : (n k m : ℕ) → 0 < k → n * k ≤ m → n ≤ m
 le-times n zero m h l = absurd (omega arith)

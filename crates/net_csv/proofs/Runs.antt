@@ -3,7 +3,7 @@ use Rattle.std.specs.Prelude.{◌≡◌, ℕ, ◌+◌, false, None, List, [], �
 use Rattle.std.proofs.Common.{refl, sym, arith}
 use Rattle.net_csv.specs.Network.{is_kind}
 use Rattle.net_csv.specs.Faults.{record_fault}
-use Rattle.net_csv.specs.Tables.{Tables, with_record}
+use Rattle.net_csv.specs.Steps.Tables.{Tables, with_record}
 use Rattle.net_csv.proofs.SoFar.{IsSoFar, so_far-more}
 
 -- the record is not `end`, and has no fault where these are the tables before it

@@ -13,16 +13,16 @@ use Rattle.net_csv.specs.Fields.{fields_fault}
 use Rattle.net_csv.specs.Network.{is_kind, supply_from}
 use Rattle.net_csv.specs.Faults.{record_fault}
 use Rattle.net_csv.specs.Grammar.{is_header, periods_fault, periods_in, read_records, StandsForAScheme}
-use Rattle.net_csv.specs.Tables.{Tables, IsReady, IsMadeOf, no_tables, with_record}
-use Rattle.net_csv.specs.Reading.{IsHeadRead, IsTextRead, RefusesAt}
-use Rattle.net_csv.proofs.HeadFacts.{header-refused, periods-refused, head-right, second-missing}
+use Rattle.net_csv.specs.Steps.Tables.{Tables, IsReady, IsMadeOf, no_tables, with_record}
+use Rattle.net_csv.specs.Steps.Reading.{IsHeadRead, IsTextRead, RefusesAt}
+use Rattle.net_csv.proofs.HeadFacts.{header-refused, periods-refused, head-right, first-missing, second-missing}
 use Rattle.net_csv.proofs.SoFar.{IsSoFar, so_far-head, so_far-refused, so_far-no_end, so_far-end, so_far-more, so_far-ready}
 use Rattle.net_csv.proofs.SchemeValid.{made-valid}
-use Rattle.net_csv.proofs.Tails.{told-refused, scheme-of}
+use Rattle.net_csv.proofs.Tails.{scheme-of}
 
 -- a text that is refused is not read
 not-refused : (tail : Tail) (rows : List (List (List ℕ))) (count at : ℕ) (c : Code) → read_records tail rows ≡ Ok count → RefusesAt (refused.Fault at c) rows → ⊥
-not-refused tail rows count at c told h = cc (sym told ∙ told-refused (refused.Fault at c) tail rows h)
+not-refused tail rows count at c told h = cc (sym told ∙ h tail)
 
 -- a test either holds, or tells a fault
 cases-fault : (o : Option Code) → (o ≡ None) ⊎ ((c : Code) × (o ≡ Some c))
@@ -61,10 +61,10 @@ goes-on tail rows (r ∷ left) place count t told few s =
 
 -- the head is right
 head : (tail : Tail) (rows : List (List (List ℕ))) (count : ℕ) → read_records tail rows ≡ Ok count → (left : List (List (List ℕ))) × IsHeadRead rows left (periods_in rows)
-head tail [] count told = absurd (cc told)
+head tail [] count told = absurd (not-refused tail [] count 1 code.NoEnd told first-missing)
 head tail (a ∷ []) count told = elim (cases-fault (unless (is_header a) code.Header)) [
   | inr (c, fault) ↦ absurd (not-refused tail (a ∷ []) count 1 c told (header-refused (a ∷ []) [] a c refl fault))
-  | inl header ↦ absurd (not-refused tail (a ∷ []) count 2 code.NoEnd told (second-missing a header))
+  | inl header ↦ absurd (not-refused tail (a ∷ []) count 2 code.NoEnd told (second-missing (a ∷ []) [] a refl refl header))
 ]
 head tail (a ∷ b ∷ left) count told = elim (cases-fault (unless (is_header a) code.Header)) [
   | inr (c, fault) ↦ absurd (not-refused tail (a ∷ b ∷ left) count 1 c told (header-refused (a ∷ b ∷ left) (b ∷ left) a c refl fault))

@@ -16,7 +16,7 @@ use Rattle.net_csv.specs.declared.given.Given.{Given}
 use Rattle.net_csv.specs.Fields.{place_in}
 use Rattle.net_csv.specs.Network.{is_kind, is_flow, defined_node, defined_flow, node_names, flow_names, given_in, head_in, piece_in, supplies_of, heads_of, pieces_of, flows_of, bands_at, with_bands}
 use Rattle.net_csv.specs.Faults.{band_of}
-use Rattle.net_csv.specs.Tables.{Tables, tables_of, with_node, with_supply, with_flow, with_piece, banded, supply_of, plain_flow, head_of}
+use Rattle.net_csv.specs.Steps.Tables.{Tables, tables_of, with_node, with_supply, with_flow, with_piece, banded, supply_of, plain_flow, head_of}
 use Rattle.net_csv.proofs.Places.{place-is, place-within}
 use Rattle.net_csv.proofs.RowKinds.{IsFine, kind-is, supplies-kept, heads-kept, pieces-kept}
 use Rattle.net_csv.proofs.FlowLists.{bands-beyond, with_bands-flow, with_bands-band}

@@ -1,8 +1,7 @@
 -- The text of a scheme is read, and it is the text of that scheme.
-use Rattle.std.specs.Prelude.{◌≡◌, ℕ, ◌+◌, ◌*◌, ◌<◌, ◌≤◌, nat_lt, true, Ok, List, [], ◌∷◌, ◌++◌, length, map, get_or, codes, decimal}
+use Rattle.std.specs.Prelude.{◌≡◌, ℕ, ◌+◌, ◌*◌, ◌<◌, ◌≤◌, true, Ok, List, [], ◌∷◌, ◌++◌, length, map, get_or, codes, decimal}
 use Rattle.std.specs.List.{AllByRecursion, filter_map, flat_map, enumerate_from}
 use Rattle.std.proofs.Common.{refl, sym, ap, arith, subst, append_assoc}
-use Rattle.std.proofs.lemmas.Bool.Decides.{nat_tests}
 use Rattle.std.proofs.lemmas.List.{append-nil, length-append}
 use Rattle.std.proofs.lemmas.List.Elements.{recursion_from_All}
 use Rattle.std.proofs.lemmas.List.FromFn.{fill_by_all}
@@ -16,8 +15,8 @@ use Rattle.net_csv.specs.declared.refused.Tail.{Tail}
 use Rattle.net_csv.specs.declared.refused.Tail.TheVariants as tail
 use Rattle.net_csv.specs.Network.{node_names, supplies_of, flows_of}
 use Rattle.net_csv.specs.Grammar.{IsSchemeOf, read_records, periods_in, body_of, supply_at}
-use Rattle.net_csv.specs.Tables.{Tables, tables_of, no_tables}
-use Rattle.net_csv.specs.Reading.{IsHeadRead, IsTextRead}
+use Rattle.net_csv.specs.Steps.Tables.{Tables, tables_of, no_tables}
+use Rattle.net_csv.specs.Steps.Reading.{IsHeadRead, IsTextRead}
 use Rattle.net_csv.specs.Writing.{node_row, supply_row, flow_rows, body_rows, rows_of}
 use Rattle.net_csv.proofs.SoFar.{IsSoFar, so_far-head, so_far-end}
 use Rattle.net_csv.proofs.Tails.{told-plan, told-nothing}
@@ -58,12 +57,9 @@ runs-body s =
 head-read : (periods : ℕ) (left : List (List (List ℕ))) → 0 < periods → periods ≤ 20000
     → IsHeadRead ((codes "netplan" ∷ codes "1" ∷ []) ∷ (codes "periods" ∷ decimal periods ∷ []) ∷ left) left periods
 head-read periods left some few =
-    let rows = (codes "netplan" ∷ codes "1" ∷ []) ∷ (codes "periods" ∷ decimal periods ∷ []) ∷ left in
-    let first : nat_lt 0 (length rows) ≡ true = grind (arith, nat_tests) in
-    let second : nat_lt 1 (length rows) ≡ true = grind (arith, nat_tests) in
     record {
-      header = rw first refl;
-      second = rw (second, decimal-period 20000 periods some few (omega arith)) refl;
+      header = refl;
+      second = rw (decimal-period 20000 periods some few (omega arith)) refl;
       two = omega arith;
       left = refl;
       number = sym (number-decimal periods few);

@@ -18,7 +18,7 @@ use Rattle.np_model.specs.Stages.{IsUnder, IsConvexFrom}
 use Rattle.np_model.specs.Valid.{AreReached, IsSound, is_amount_or_infinite, is_name, periods_of, expanded_arcs}
 use Rattle.net_csv.specs.Faults.{arcs_fault, band_fault, piece_fault, has_finite_end, is_finite, present_slope, last_band}
 use Rattle.net_csv.specs.declared.given.Given.{Given}
-use Rattle.net_csv.specs.Tables.{Tables, with_record, flow_added, banded}
+use Rattle.net_csv.specs.Steps.Tables.{Tables, with_record, flow_added, banded}
 use Rattle.net_csv.specs.Writing.{piece_row, flow_rows}
 use Rattle.net_csv.proofs.AmountTexts.{amount_text-value}
 use Rattle.net_csv.proofs.WrittenNames.{place-new, place-last}

@@ -12,7 +12,7 @@ use Rattle.np_model.specs.Valid.{IsSound, JoinsNodes, HasGain, has_amounts, has_
 use Rattle.net_csv.specs.Fields.{amount_fault, upper_fault, gain_fault, new_fault, used_fault, upper_of, place_in}
 use Rattle.net_csv.specs.Network.{is_kind, is_flow, kind_in, bounds_place}
 use Rattle.net_csv.specs.Faults.{head_fault, flow_fault, arcs_fault, is_at_most}
-use Rattle.net_csv.specs.Tables.{Tables, with_record, flow_added}
+use Rattle.net_csv.specs.Steps.Tables.{Tables, with_record, flow_added}
 use Rattle.net_csv.specs.AmountText.{amount_text}
 use Rattle.net_csv.specs.Writing.{name_at, upper_text, ends_row, flow_row}
 use Rattle.net_csv.proofs.AmountTexts.{amount_text-value}

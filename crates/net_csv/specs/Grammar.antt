@@ -1,7 +1,7 @@
 -- The network texts, over the list of their records: the first fault, or the number of records up to and with `end`.
-use Rattle.std.specs.Prelude.{◌≡◌, ℕ, ◌+◌, ◌*◌, ◌&&◌, ◌||◌, ◌==◌, nat_lt, not, Bool, Option, Some, None, List, [], ◌∷◌, length, map, take, drop, codes, slice_get, unwrap_or, Result, Ok, Err, if◌then◌else◌}
-use Rattle.std.specs.List.{range_with_len, find}
-use Rattle.std.specs.Option.{option_map_or, is_some}
+use Rattle.std.specs.Prelude.{◌≡◌, ℕ, ◌+◌, ◌*◌, ◌&&◌, ◌==◌, nat_lt, not, Bool, Option, Some, None, option_map, List, [], ◌∷◌, length, map, take, drop, codes, slice_get, unwrap_or, Result, Ok, Err, if◌then◌else◌}
+use Rattle.std.specs.List.{range_with_len, list_any, before_first}
+use Rattle.std.specs.Option.{option_or, option_map_or}
 use Rattle.std.specs.Str.{bytes_eq}
 use Rattle.np_frac.specs.Ratio.{Ratio}
 use Rattle.np_frac.specs.Text.{number}
@@ -15,6 +15,17 @@ use Rattle.np_records.specs.Faults.{first_fault, unless}
 use Rattle.net_csv.specs.Fields.{fields_fault, is_period}
 use Rattle.net_csv.specs.Network.{is_kind, node_names, supplies_of, supply_from, flows_of}
 use Rattle.net_csv.specs.Faults.{body_fault}
+
+-- ---- the first place with a fault
+
+-- what the first element gives that gives something
+abbrev pub found : {X Y : Type 0} → (X → Option Y) → List X → Option Y
+found f [] = None
+found f (x ∷ xs) = option_or (f x) (found f xs)
+
+-- the first of so many places, from 0, that has a fault, with the fault; None where none has
+abbrev pub first_place : {C : Type 0} → (ℕ → Option C) → ℕ → Option (ℕ × C)
+first_place fault_at places = found (λ place. option_map (λ c. (place, c)) (fault_at place)) (range_with_len 0 places)
 
 -- ---- the records at the head
 
@@ -39,48 +50,51 @@ periods_in rows = number (field_of (row_at rows 1) 1)
 
 -- ---- the body
 
--- a record `end`, as it has to be
 abbrev pub is_end : List (List ℕ) → Bool
-is_end r = is_kind r (codes "end") && (length r == 1)
+is_end r = is_kind r (codes "end")
 
 -- the records between the head and the one at a place
 abbrev pub body_before : List (List (List ℕ)) → ℕ → List (List (List ℕ))
 body_before rows place = drop 2 (take place rows)
 
--- what is wrong with the record at a place, from 0, where those before it are right and no `end` stands among them
-abbrev pub fault_at : List (List (List ℕ)) → ℕ → Option Code
-fault_at rows place =
+-- the records between the head and the first `end`
+abbrev pub body_of : List (List (List ℕ)) → List (List (List ℕ))
+body_of rows = before_first is_end (drop 2 rows)
+
+-- a record behind `end`: it may be one of a plan text, where one is to come
+abbrev pub after_fault : Tail → Option Code
+after_fault tail.Nothing = Some code.AfterEnd
+after_fault tail.Plan = None
+
+-- a record behind the head, where these are the records between
+abbrev pub row_fault : Tail → ℕ → List (List (List ℕ)) → List (List ℕ) → Option Code
+row_fault tail periods before r =
+    if list_any is_end before then after_fault tail
+    else if is_end r then fields_fault 1 r
+    else body_fault periods before r
+
+-- what is wrong at a place, from 0, where all records before it are right; behind the last record `end` is missing where none was read
+abbrev pub fault_at : Tail → List (List (List ℕ)) → ℕ → Option Code
+fault_at tail rows place =
     let r = row_at rows place in
-    if not (nat_lt place (length rows)) then Some code.NoEnd
+    if not (nat_lt place (length rows)) then unless (list_any is_end (body_before rows place)) code.NoEnd
     else if place == 0 then unless (is_header r) code.Header
     else if place == 1 then periods_fault r
-    else if is_kind r (codes "end") then fields_fault 1 r
-    else body_fault (periods_in rows) (body_before rows place) r
+    else row_fault tail (periods_in rows) (body_before rows place) r
 
--- reading stops at a place: at a fault, or at `end`
-abbrev pub stops_at : List (List (List ℕ)) → ℕ → Bool
-stops_at rows place = is_some (fault_at rows place) || (nat_lt 1 place && is_end (row_at rows place))
+-- the first place that has a fault, from 0, with the fault
+abbrev pub text_fault : Tail → List (List (List ℕ)) → Option (ℕ × Code)
+text_fault tail rows = first_place (fault_at tail rows) (length rows + 1)
 
--- the first place where it stops; at the latest behind the last record
-abbrev pub stop_of : List (List (List ℕ)) → ℕ
-stop_of rows = unwrap_or (find (stops_at rows) (range_with_len 0 (length rows + 1))) (length rows)
-
--- with no plan text behind it, `end` is the last record
-abbrev pub tail_fault : Tail → List (List (List ℕ)) → ℕ → Option Code
-tail_fault tail.Nothing rows count = unless (not (nat_lt count (length rows))) code.AfterEnd
-tail_fault tail.Plan rows count = None
+-- how many records a text without a fault has up to and with `end`: two at its head, its body, and `end`
+abbrev pub count_of : List (List (List ℕ)) → ℕ
+count_of rows = length (body_of rows) + 3
 
 -- the number of records up to and with `end`; else the number of the record with the first fault, from 1, and the fault
 abbrev pub read_records : Tail → List (List (List ℕ)) → Result ℕ (ℕ × Code)
-read_records t rows =
-    let stop = stop_of rows in
-    option_map_or (λ c. Err (stop + 1, c)) (fault_at rows stop)
-    (option_map_or (λ c. Err (stop + 2, c)) (tail_fault t rows (stop + 1)) (Ok (stop + 1)))
+read_records tail rows = option_map_or (λ first. Err (first.0 + 1, first.1)) (text_fault tail rows) (Ok (count_of rows))
 
 -- ---- the scheme
-
-abbrev pub body_of : List (List (List ℕ)) → List (List (List ℕ))
-body_of rows = body_before rows (stop_of rows)
 
 -- the supply at a place of the scheme
 abbrev pub supply_at : List (List (List ℕ)) → ℕ → Ratio

@@ -8,7 +8,7 @@ ghost use Rattle.np_model.specs.Valid.{periods_of};
 ghost use Rattle.net_csv.specs.declared.refused.Stop.{Stop};
 ghost use Rattle.np_records.specs.Faults.{Reads};
 ghost use Rattle.net_csv.specs.Faults.{node_fault, supply_fault, head_fault, flow_fault, piece_fault, band_fault, record_fault, has_finite_end, present_slope};
-ghost use Rattle.net_csv.specs.Tables.{HasRoom, IsMadeOf, IsReady, Takes, head_of, no_tables, plain_flow, flow_added, band_added, banded, with_node, with_supply, with_flow, with_piece, with_record};
+ghost use Rattle.net_csv.specs.Steps.Tables.{HasRoom, IsMadeOf, IsReady, TakesRecord, head_of, no_tables, plain_flow, flow_added, band_added, banded, with_node, with_supply, with_flow, with_piece, with_record};
 
 use crate::fields::{amount, fields, new_name, period, upper, used_name};
 use crate::given::Given;
@@ -37,7 +37,7 @@ pub(crate) struct Draft {
 }
 
 impl Model for Draft {
-    ghost use Rattle.net_csv.specs.Tables.{Tables};
+    ghost use Rattle.net_csv.specs.Steps.Tables.{Tables};
 
     ghost Value = { Tables };
 
@@ -139,10 +139,10 @@ impl Draft {
         }
     }
 
-    // Takes a node record.
+    // TakesRecord a node record.
     fn node(&mut self, alloc: Global, row: &ByteRecord) -> Result<(), Stop>
         requires { HasRoom self.old }
-        ensures { Takes result (node_fault self.old.periods self.old.nodes (fields_of row.now)) self.new
+        ensures { TakesRecord result (node_fault self.old.periods self.old.nodes (fields_of row.now)) self.new
             (with_node self.old (fields_of row.now)) }
     {
         fields(row, 2)?;
@@ -161,10 +161,10 @@ impl Draft {
         Ok(())
     }
 
-    // Takes a supply record.
+    // TakesRecord a supply record.
     fn supply(&mut self, row: &ByteRecord) -> Result<(), Stop>
         requires { HasRoom self.old }
-        ensures { Takes result (supply_fault self.old.periods self.old.nodes (fields_of row.now)) self.new
+        ensures { TakesRecord result (supply_fault self.old.periods self.old.nodes (fields_of row.now)) self.new
             (with_supply self.old (fields_of row.now)) }
     {
         fields(row, 4)?;
@@ -217,10 +217,10 @@ impl Draft {
         Ok(Head { kind, numbers })
     }
 
-    // Takes the record of a flow.
+    // TakesRecord the record of a flow.
     fn flow(&mut self, alloc: Global, row: &ByteRecord) -> Result<(), Stop>
         requires { HasRoom self.old }
-        ensures { Takes result (flow_fault self.old.periods self.old.nodes self.old.names self.old.arcs (fields_of row.now)) self.new
+        ensures { TakesRecord result (flow_fault self.old.periods self.old.nodes self.old.names self.old.arcs (fields_of row.now)) self.new
             (with_flow self.old (fields_of row.now)) }
     {
         let name = field(row, 1);
@@ -236,7 +236,7 @@ impl Draft {
     fn band(&mut self, place: usize, band: Band) -> Result<(), Stop>
         requires room { HasRoom self.old }
         requires within { place < length self.old.flows }
-        ensures { Takes result (option_and_then (band_fault self.old.periods self.old.arcs band) (slice_get self.old.flows place)) self.new
+        ensures { TakesRecord result (option_and_then (band_fault self.old.periods self.old.arcs band) (slice_get self.old.flows place)) self.new
             (option_map_or (band_added self.old place band) (slice_get self.old.flows place) self.old) }
     {
         let arcs = test_band(self.periods, self.arcs, &band, &self.flows[place])?;
@@ -245,10 +245,10 @@ impl Draft {
         Ok(())
     }
 
-    // Takes a piece record.
+    // TakesRecord a piece record.
     fn piece(&mut self, row: &ByteRecord) -> Result<(), Stop>
         requires { HasRoom self.old }
-        ensures { Takes result (piece_fault self.old.periods self.old.names self.old.arcs self.old.flows (fields_of row.now)) self.new
+        ensures { TakesRecord result (piece_fault self.old.periods self.old.names self.old.arcs self.old.flows (fields_of row.now)) self.new
             (with_piece self.old (fields_of row.now)) }
     {
         fields(row, 4)?;
@@ -258,10 +258,10 @@ impl Draft {
         self.band(place, Band { width, slope })
     }
 
-    /// Takes a record of the body, other than `end`.
+    /// TakesRecord a record of the body, other than `end`.
     pub(crate) fn take(&mut self, alloc: Global, row: &ByteRecord) -> Result<(), Stop>
         requires { HasRoom self.old }
-        ensures { Takes result (record_fault self.old.periods self.old.nodes self.old.names self.old.arcs self.old.flows (fields_of row.now)) self.new
+        ensures { TakesRecord result (record_fault self.old.periods self.old.nodes self.old.names self.old.arcs self.old.flows (fields_of row.now)) self.new
             (with_record self.old (fields_of row.now)) }
     {
         if is_kind(row, b"node") {

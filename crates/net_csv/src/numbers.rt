@@ -7,7 +7,7 @@ ghost use Rattle.np_model.specs.Valid.{periods_of, is_amount_or_infinite};
 ghost use Rattle.net_csv.specs.declared.refused.Code.TheVariants as code;
 ghost use Rattle.np_records.specs.Faults.{Reads, unless};
 ghost use Rattle.net_csv.specs.Faults.{is_at_most, is_wide, is_finite, numbers_fault, nodes_fault, arcs_fault};
-ghost use Rattle.net_csv.specs.Tables.{numbers_of};
+ghost use Rattle.net_csv.specs.Steps.Tables.{numbers_of};
 
 use crate::fields::{amount, upper};
 use crate::refused::Code;

@@ -6,9 +6,10 @@ ghost use Rattle.np_frac.specs.Text.{number};
 ghost use Rattle.np_records.specs.Records.{field_of, records_of};
 ghost use Rattle.net_csv.specs.declared.refused.Code.TheVariants as code;
 ghost use Rattle.np_records.specs.Faults.{Reads, unless};
-ghost use Rattle.net_csv.specs.Tables.{HasRoom, IsReady, TakesRow};
+ghost use Rattle.net_csv.specs.Steps.Tables.{HasRoom, IsReady, TakesRow};
 ghost use Rattle.net_csv.specs.Grammar.{is_header, periods_fault, read_records};
-ghost use Rattle.net_csv.specs.Reading.{IsHeadRead, IsTextRead, IsWholeRead, IsRefusal, ReadsScheme, RefusesAt};
+ghost use Rattle.net_csv.specs.Reading.{IsRefusal, ReadsScheme};
+ghost use Rattle.net_csv.specs.Steps.Reading.{IsHeadRead, IsTextRead, IsWholeRead, RefusesAt};
 
 use crate::draft::Draft;
 use crate::fields::{fields, whole_period};

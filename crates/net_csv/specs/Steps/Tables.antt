@@ -89,9 +89,9 @@ StopsFor (stop.Fault c) fault = fault ≡ Some c
 StopsFor stop.Memory fault = ⊤
 
 -- without a fault the tables are these; else it stopped
-abbrev pub Takes : {U : Type 0} → Result U Stop → Option Code → Tables → Tables → Type 0
-Takes (Ok done) fault new made = (fault ≡ None) × (new ≡ made)
-Takes (Err why) fault new made = StopsFor why fault
+abbrev pub TakesRecord : {U : Type 0} → Result U Stop → Option Code → Tables → Tables → Type 0
+TakesRecord (Ok done) fault new made = (fault ≡ None) × (new ≡ made)
+TakesRecord (Err why) fault new made = StopsFor why fault
 
 -- ---- a record more
 
