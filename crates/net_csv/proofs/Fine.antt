@@ -6,7 +6,7 @@ use Rattle.std.proofs.lemmas.Bool.{cases_Bool}
 use Rattle.std.proofs.lemmas.List.Elements.{filter_map-append}
 use Rattle.np_records.specs.Records.{field_of}
 use Rattle.np_records.specs.Names.{place_of}
-use Rattle.np_model.specs.Valid.{expanded_arcs}
+use Rattle.np_model.specs.Scheme.Valid.{expanded_arcs}
 use Rattle.np_records.proofs.FaultFacts.{or-first, or-rest}
 use Rattle.net_csv.specs.declared.refused.Code.TheVariants.{NoSuchName}
 use Rattle.np_records.specs.Faults.{unless}

@@ -22,9 +22,11 @@ use Rattle.np_model.specs.declared.scheme.Band.{Band}
 use Rattle.np_model.specs.declared.scheme.Flow.{Flow}
 use Rattle.np_model.specs.declared.scheme.FlowKind.{FlowKind}
 use Rattle.np_model.specs.declared.scheme.FlowKind.TheVariants.{Link, Hold, Drain, Feed}
-use Rattle.np_model.specs.Network.{IsAtMost}
-use Rattle.np_model.specs.Stages.{IsUnder, IsConvexFrom}
-use Rattle.np_model.specs.Valid.{AreNames, IsSound, JoinsNodes, HasGain, AreReached, is_name, is_amount_or_infinite, has_amount_gain}
+use Rattle.np_model.specs.Network.Arcs.{IsAtMost, IsUnder}
+use Rattle.np_model.specs.Scheme.Segments.{IsConvexFrom, AreReached}
+use Rattle.np_model.specs.Scheme.Names.{AreNames, is_name}
+use Rattle.np_model.specs.Scheme.Valid.{IsSound, is_amount_or_infinite, has_amount_gain}
+use Rattle.np_model.specs.Scheme.Kinds.{JoinsNodes, HasGain}
 use Rattle.net_csv.specs.declared.given.Given.{Given}
 use Rattle.net_csv.specs.declared.refused.Code.TheVariants as code
 use Rattle.np_records.specs.Faults.{unless}

@@ -9,7 +9,7 @@ use Rattle.np_frac.specs.Ratio.{is_below}
 use Rattle.np_records.specs.Records.{field_of}
 use Rattle.np_model.specs.declared.scheme.Band.{Band}
 use Rattle.np_model.specs.declared.scheme.Flow.{Flow}
-use Rattle.np_model.specs.Valid.{periods_of}
+use Rattle.np_model.specs.Scheme.Kinds.{periods_of}
 use Rattle.np_records.proofs.FaultFacts.{or-first, or-rest, unless-none}
 use Rattle.net_csv.specs.declared.refused.Code.TheVariants as code
 use Rattle.np_records.specs.Faults.{unless}

@@ -11,7 +11,8 @@ use Rattle.np_records.specs.Records.{field_of}
 use Rattle.np_records.specs.Names.{place_of}
 use Rattle.np_model.specs.declared.scheme.Band.{Band}
 use Rattle.np_model.specs.declared.scheme.Flow.{Flow}
-use Rattle.np_model.specs.Valid.{expanded_arcs, periods_of}
+use Rattle.np_model.specs.Scheme.Valid.{expanded_arcs}
+use Rattle.np_model.specs.Scheme.Kinds.{periods_of}
 use Rattle.net_csv.specs.declared.given.Given.{Given}
 use Rattle.net_csv.specs.Fields.{place_in}
 use Rattle.net_csv.specs.Network.{is_kind, is_flow, defined_node, defined_flow, node_names, flow_names, given_in, head_in, piece_in, supplies_of, heads_of, pieces_of, flows_of, bands_at, with_bands}

@@ -9,7 +9,8 @@ use Rattle.np_frac.specs.Ratio.{Ratio, zero_ratio}
 use Rattle.np_frac.specs.Amount.{is_amount}
 use Rattle.np_model.specs.declared.scheme.Flow.{Flow}
 use Rattle.np_model.specs.declared.scheme.Scheme.{Scheme}
-use Rattle.np_model.specs.Valid.{IsSound, is_name}
+use Rattle.np_model.specs.Scheme.Valid.{IsSound}
+use Rattle.np_model.specs.Scheme.Names.{is_name}
 use Rattle.net_csv.specs.declared.given.Given.{Given}
 use Rattle.net_csv.specs.declared.refused.Tail.{Tail}
 use Rattle.net_csv.specs.declared.refused.Tail.TheVariants as tail

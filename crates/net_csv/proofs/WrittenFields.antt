@@ -11,9 +11,9 @@ use Rattle.np_frac.proofs.RatioLaws.{clash, is_below_true, is_below_false}
 use Rattle.np_records.specs.Names.{place_of}
 use Rattle.np_model.specs.declared.arc.Upper.{Upper}
 use Rattle.np_model.specs.declared.arc.Upper.TheVariants.{Finite, Infinite}
-use Rattle.np_model.specs.Network.{IsAtMost}
-use Rattle.np_model.specs.Stages.{IsUnder}
-use Rattle.np_model.specs.Valid.{is_name, is_amount_or_infinite}
+use Rattle.np_model.specs.Network.Arcs.{IsAtMost, IsUnder}
+use Rattle.np_model.specs.Scheme.Names.{is_name}
+use Rattle.np_model.specs.Scheme.Valid.{is_amount_or_infinite}
 use Rattle.net_csv.specs.Fields.{is_amount_text, is_infinite, upper_of, amount_fault, upper_fault, gain_fault, new_fault, used_fault, is_all, is_period, period_fault, period_of}
 use Rattle.net_csv.specs.Faults.{is_at_most, is_wide}
 use Rattle.net_csv.specs.AmountText.{amount_text}

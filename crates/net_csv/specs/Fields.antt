@@ -9,7 +9,7 @@ use Rattle.np_frac.specs.Amount.{amount_of}
 use Rattle.np_records.specs.Names.{place_of}
 use Rattle.np_model.specs.declared.arc.Upper.{Upper}
 use Rattle.np_model.specs.declared.arc.Upper.TheVariants.{Finite, Infinite}
-use Rattle.np_model.specs.Valid.{is_name}
+use Rattle.np_model.specs.Scheme.Names.{is_name}
 use Rattle.np_records.specs.Faults.{unless}
 use Rattle.net_csv.specs.declared.refused.Code.{Code}
 use Rattle.net_csv.specs.declared.refused.Code.TheVariants as code

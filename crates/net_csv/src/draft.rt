@@ -4,7 +4,7 @@ ghost use Rattle.std.specs.Prelude.{◌≡◌, ◌+◌, ◌++◌, ◌∷◌, ◌
 ghost use Rattle.std.specs.Option.{option_and_then, option_map_or};
 ghost use Rattle.csv.specs.Records.{fields_of};
 ghost use Rattle.np_records.specs.Names.{place_of};
-ghost use Rattle.np_model.specs.Valid.{periods_of};
+ghost use Rattle.np_model.specs.Scheme.Kinds.{periods_of};
 ghost use Rattle.net_csv.specs.declared.refused.Stop.{Stop};
 ghost use Rattle.np_records.specs.Faults.{Reads};
 ghost use Rattle.net_csv.specs.Faults.{node_fault, supply_fault, head_fault, flow_fault, piece_fault, band_fault, record_fault, has_finite_end, present_slope};

@@ -6,7 +6,9 @@ ghost use Rattle.np_frac.specs.Ratio.{zero_ratio};
 ghost use Rattle.np_frac.specs.Text.{number};
 ghost use Rattle.np_frac.specs.Amount.{amount_of, is_amount};
 ghost use Rattle.np_records.specs.Names.{place_of};
-ghost use Rattle.np_model.specs.Valid.{is_graphic, is_name, is_amount_or_infinite};
+ghost use Rattle.std.specs.Char.{is_ascii_graphic};
+ghost use Rattle.np_model.specs.Scheme.Names.{is_name};
+ghost use Rattle.np_model.specs.Scheme.Valid.{is_amount_or_infinite};
 ghost use Rattle.csv.specs.Records.{fields_of};
 ghost use Rattle.np_records.specs.Faults.{Reads};
 ghost use Rattle.net_csv.specs.Fields.{is_period, amount_fault, upper_fault, upper_of, gain_fault, period_fault, period_of, new_fault, used_fault, place_in, fields_fault};
@@ -73,8 +75,8 @@ pub(crate) fn period(periods: u32, bytes: &[u8]) -> Result<Option<u32>, Code>
 }
 
 // Whether each byte prints and is no space.
-fn is_graphic(bytes: &[u8]) -> bool
-    ensures { result ≡ list_all is_graphic bytes.now }
+fn is_ascii_graphic(bytes: &[u8]) -> bool
+    ensures { result ≡ list_all is_ascii_graphic bytes.now }
 {
     bytes.iter().all(|byte| 33 <= *byte && *byte <= 126)
 }
@@ -87,7 +89,7 @@ fn is_name(bytes: &[u8]) -> bool
     if size == 0 || 64 < size {
         return false;
     }
-    is_graphic(bytes)
+    is_ascii_graphic(bytes)
 }
 
 /// Looks whether a name may be defined.

@@ -3,7 +3,8 @@
 ghost use Rattle.std.specs.Prelude.{◌≡◌, ◌<◌, ◌≤◌, ◌+◌, ◌*◌, ◌&&◌, true, IfOk, nat_le, not, length};
 ghost use Rattle.csv.specs.Records.{fields_of};
 ghost use Rattle.np_frac.specs.Amount.{is_amount};
-ghost use Rattle.np_model.specs.Valid.{periods_of, is_amount_or_infinite};
+ghost use Rattle.np_model.specs.Scheme.Kinds.{periods_of};
+ghost use Rattle.np_model.specs.Scheme.Valid.{is_amount_or_infinite};
 ghost use Rattle.net_csv.specs.declared.refused.Code.TheVariants as code;
 ghost use Rattle.np_records.specs.Faults.{Reads, unless};
 ghost use Rattle.net_csv.specs.Faults.{is_at_most, is_wide, is_finite, numbers_fault, nodes_fault, arcs_fault};

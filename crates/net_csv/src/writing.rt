@@ -6,7 +6,7 @@ ghost use Rattle.std.specs.Option.{option_map_or};
 ghost use Rattle.np_frac.specs.Amount.{is_amount};
 ghost use Rattle.np_records.specs.Texts.{record_text, records_text};
 ghost use Rattle.np_records.specs.Records.{records_of};
-ghost use Rattle.np_model.specs.Valid.{IsSound, has_amounts, is_amount_or_infinite};
+ghost use Rattle.np_model.specs.Scheme.Valid.{IsSound, has_amounts, is_amount_or_infinite};
 ghost use Rattle.net_csv.specs.declared.refused.Tail.{Tail as TheTail};
 ghost use Rattle.net_csv.specs.Grammar.{IsSchemeOf, read_records};
 ghost use Rattle.net_csv.specs.AmountText.{amount_text};

@@ -8,7 +8,9 @@ use Rattle.np_model.specs.declared.scheme.FlowKind.{FlowKind}
 use Rattle.np_model.specs.declared.scheme.Band.{Band}
 use Rattle.np_model.specs.declared.scheme.Flow.{Flow}
 use Rattle.np_model.specs.declared.scheme.Scheme.{Scheme}
-use Rattle.np_model.specs.Valid.{AreNames, IsSound, periods_of, expanded_arcs}
+use Rattle.np_model.specs.Scheme.Names.{AreNames}
+use Rattle.np_model.specs.Scheme.Valid.{IsSound, expanded_arcs}
+use Rattle.np_model.specs.Scheme.Kinds.{periods_of}
 use Rattle.net_csv.specs.declared.refused.Code.{Code}
 use Rattle.net_csv.specs.declared.refused.Refused.{Refused}
 use Rattle.net_csv.specs.declared.refused.Refused.TheVariants as refused
