@@ -6,7 +6,8 @@ use Rattle.std.proofs.Common.{refl, sym, ◌∙◌, arith}
 use Rattle.net_csv.specs.declared.refused.Code.{Code}
 use Rattle.net_csv.specs.declared.refused.Refused.TheVariants as refused
 use Rattle.net_csv.specs.declared.refused.Tail.{Tail}
-use Rattle.net_csv.specs.Grammar.{found, first_place, fault_at, text_fault, count_of, read_records}
+use Rattle.np_records.specs.Faults.{found, first_place}
+use Rattle.net_csv.specs.Grammar.{fault_at, text_fault, count_of, read_records}
 use Rattle.net_csv.specs.Steps.Reading.{RefusesAt}
 
 abbrev placed : {C : Type 0} → (ℕ → Option C) → ℕ → Option (ℕ × C)

@@ -7,12 +7,12 @@ use Rattle.net_csv.specs.declared.refused.Code.{Code}
 use Rattle.net_csv.specs.declared.refused.Code.TheVariants as code
 use Rattle.net_csv.specs.declared.refused.Refused.TheVariants as refused
 use Rattle.np_records.specs.Faults.{unless}
-use Rattle.np_frac.specs.Text.{number}
+use Rattle.np_frac.specs.Text.{number, is_number}
 use Rattle.np_records.specs.Records.{field_of}
 use Rattle.np_records.proofs.FaultFacts.{or-first, or-rest, unless-none}
 use Rattle.net_csv.specs.declared.refused.Tail.{Tail}
-use Rattle.net_csv.specs.Fields.{fields_fault, is_number, is_period}
-use Rattle.net_csv.specs.Network.{is_kind}
+use Rattle.net_csv.specs.Fields.{fields_fault}
+use Rattle.np_records.specs.Rows.{is_period, is_kind}
 use Rattle.net_csv.specs.Grammar.{is_header, periods_fault, fault_at, periods_in}
 use Rattle.net_csv.specs.Steps.Reading.{IsHeadRead, RefusesAt}
 use Rattle.net_csv.proofs.FirstPlaces.{refuses-at}

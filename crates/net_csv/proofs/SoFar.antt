@@ -12,9 +12,10 @@ use Rattle.net_csv.specs.declared.refused.Refused.{Refused}
 use Rattle.net_csv.specs.declared.refused.Refused.TheVariants as refused
 use Rattle.net_csv.specs.declared.refused.Tail.{Tail}
 use Rattle.net_csv.specs.Fields.{fields_fault}
-use Rattle.net_csv.specs.Network.{is_kind, is_flow, node_names, flow_names}
+use Rattle.np_records.specs.Rows.{is_kind, row_at, body_before}
+use Rattle.net_csv.specs.Network.{is_flow, defined_nodes, defined_flows}
 use Rattle.net_csv.specs.Faults.{record_fault, body_fault}
-use Rattle.net_csv.specs.Grammar.{row_at, body_before, body_of, is_end, periods_in, fault_at}
+use Rattle.net_csv.specs.Grammar.{body_of, is_end, periods_in, fault_at}
 use Rattle.net_csv.specs.Steps.Tables.{Tables, TakesRow, HasRoom, AreKept, IsReady, tables_of, no_tables, with_record}
 use Rattle.net_csv.specs.Steps.Reading.{IsHeadRead, IsTextRead, RefusesAt}
 use Rattle.net_csv.proofs.RowKinds.{IsFine}
@@ -34,7 +35,7 @@ pub record IsSoFar (rows left : List (List (List ℕ))) (place : ℕ) (t : Table
   pub none : (tail : Tail) (i : ℕ) → i < place → fault_at tail rows i ≡ None
   pub goes : list_any is_end (drop 2 before) ≡ false
   pub tables : t ≡ tables_of (periods_in rows) (drop 2 before)
-  pub fine : AllByRecursion (IsFine (node_names (drop 2 before)) (flow_names (drop 2 before))) (drop 2 before)
+  pub fine : AllByRecursion (IsFine (defined_nodes (drop 2 before)) (defined_flows (drop 2 before))) (drop 2 before)
   pub room : HasRoom t
   pub kept : AreKept t
   pub some : 0 < periods_in rows
@@ -72,7 +73,7 @@ drop-short zero xs = omega arith
 drop-short (suc n) [] = omega arith
 drop-short (suc n) (x ∷ xs) = let h = drop-short n xs in omega arith
 
-names-short : (rows : List (List (List ℕ))) → length (flow_names rows) ≤ length rows
+names-short : (rows : List (List (List ℕ))) → length (defined_flows rows) ≤ length rows
 names-short [] = omega arith
 names-short (r ∷ rs) = let h = names-short rs in elim (cases_Bool (is_flow r)) [
   | inl t ↦ rw t (omega arith)

@@ -10,7 +10,8 @@ use Rattle.net_csv.specs.declared.refused.Code.TheVariants as code
 use Rattle.net_csv.specs.declared.refused.Refused.TheVariants as refused
 use Rattle.net_csv.specs.declared.refused.Tail.{Tail}
 use Rattle.net_csv.specs.Fields.{fields_fault}
-use Rattle.net_csv.specs.Network.{is_kind, supply_from}
+use Rattle.np_records.specs.Rows.{is_kind}
+use Rattle.net_csv.specs.Network.{supply_from}
 use Rattle.net_csv.specs.Faults.{record_fault}
 use Rattle.net_csv.specs.Grammar.{is_header, periods_fault, periods_in, read_records, StandsForAScheme}
 use Rattle.net_csv.specs.Steps.Tables.{Tables, IsReady, IsMadeOf, no_tables, with_record}

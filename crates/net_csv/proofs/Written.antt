@@ -14,7 +14,7 @@ use Rattle.np_model.specs.Scheme.Names.{is_name}
 use Rattle.net_csv.specs.declared.given.Given.{Given}
 use Rattle.net_csv.specs.declared.refused.Tail.{Tail}
 use Rattle.net_csv.specs.declared.refused.Tail.TheVariants as tail
-use Rattle.net_csv.specs.Network.{node_names, supplies_of, flows_of}
+use Rattle.net_csv.specs.Network.{defined_nodes, supplies_of, flows_of}
 use Rattle.net_csv.specs.Grammar.{IsSchemeOf, read_records, periods_in, body_of, supply_at}
 use Rattle.net_csv.specs.Steps.Tables.{Tables, tables_of, no_tables}
 use Rattle.net_csv.specs.Steps.Reading.{IsHeadRead, IsTextRead}
@@ -93,18 +93,18 @@ written-read tail.Plan s = told-plan (rows_of s) [] _ (length (rows_of s)) (text
 
 -- ---- the scheme
 
-supply-back : (body : List (List (List ℕ))) (nodes : List (List ℕ)) (supply : List Ratio) (k : ℕ) → node_names body ≡ nodes → supplies_of body ≡ gifts nodes supply → k < length supply
+supply-back : (body : List (List (List ℕ))) (nodes : List (List ℕ)) (supply : List Ratio) (k : ℕ) → defined_nodes body ≡ nodes → supplies_of body ≡ gifts nodes supply → k < length supply
     → get_or supply k zero_ratio ≡ supply_at body k
 supply-back body nodes supply k e g h = rw (g, e) (sym (given-at (length nodes) supply 0 k k (omega arith) h))
 
-parts-of : (periods : ℕ) (body : List (List (List ℕ))) (t : Tables) → t ≡ tables_of periods body → (t.periods ≡ periods) × (t.nodes ≡ node_names body) × (t.supplies ≡ supplies_of body) × (t.flows ≡ flows_of body)
+parts-of : (periods : ℕ) (body : List (List (List ℕ))) (t : Tables) → t ≡ tables_of periods body → (t.periods ≡ periods) × (t.nodes ≡ defined_nodes body) × (t.supplies ≡ supplies_of body) × (t.flows ≡ flows_of body)
 unfolding tables_of
 parts-of periods body t e = (ap (λ (x : Tables). x.periods) e, ap (λ (x : Tables). x.nodes) e, ap (λ (x : Tables). x.supplies) e, ap (λ (x : Tables). x.flows) e)
 
 scheme-of : (rows after : List (List (List ℕ))) (s : Scheme) (count : ℕ) → IsTextRead rows after (written_tables s) count → IsSchemeOf rows s
 scheme-of rows after s count read =
     let parts = parts-of (periods_in rows) (body_of rows) _ read.tables in
-    let size : length s.supply ≡ periods_in rows * length (node_names (body_of rows)) = rw (sym parts.0, sym parts.1) s.valid.one_each in
+    let size : length s.supply ≡ periods_in rows * length (defined_nodes (body_of rows)) = rw (sym parts.0, sym parts.1) s.valid.one_each in
     record {
       periods = parts.0;
       nodes = parts.1;

@@ -14,12 +14,12 @@ use Rattle.np_model.specs.declared.arc.Upper.{Upper}
 use Rattle.np_model.specs.declared.arc.Upper.TheVariants.{Finite, Infinite}
 use Rattle.np_model.specs.declared.scheme.Band.{Band}
 use Rattle.np_model.specs.declared.scheme.Flow.{Flow}
-use Rattle.np_model.specs.Network.Arcs.{IsUnder}
+use Rattle.np_model.specs.Network.Arcs.{IsUnder, is_finite}
 use Rattle.np_model.specs.Scheme.Segments.{IsConvexFrom, AreReached}
 use Rattle.np_model.specs.Scheme.Valid.{IsSound, is_amount_or_infinite, expanded_arcs}
 use Rattle.np_model.specs.Scheme.Names.{is_name}
 use Rattle.np_model.specs.Scheme.Kinds.{periods_of}
-use Rattle.net_csv.specs.Faults.{arcs_fault, band_fault, piece_fault, has_finite_end, is_finite, present_slope, last_band}
+use Rattle.net_csv.specs.Faults.{arcs_fault, band_fault, piece_fault, has_finite_end, present_slope, last_band}
 use Rattle.net_csv.specs.declared.given.Given.{Given}
 use Rattle.net_csv.specs.Steps.Tables.{Tables, with_record, flow_added, banded}
 use Rattle.net_csv.specs.Writing.{piece_row, flow_rows}

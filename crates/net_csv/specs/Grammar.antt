@@ -1,7 +1,7 @@
 -- The network texts, over the list of their records: the first fault, or the number of records up to and with `end`.
-use Rattle.std.specs.Prelude.{◌≡◌, ℕ, ◌+◌, ◌*◌, ◌&&◌, ◌==◌, nat_lt, not, Bool, Option, Some, None, option_map, List, [], ◌∷◌, length, map, take, drop, codes, slice_get, unwrap_or, Result, Ok, Err, if◌then◌else◌}
+use Rattle.std.specs.Prelude.{◌≡◌, ℕ, ◌+◌, ◌*◌, ◌&&◌, ◌==◌, nat_lt, not, Bool, Option, Some, None, List, [], ◌∷◌, length, map, drop, codes, Result, Ok, Err, if◌then◌else◌}
 use Rattle.std.specs.List.{range_with_len, list_any, before_first}
-use Rattle.std.specs.Option.{option_or, option_map_or}
+use Rattle.std.specs.Option.{option_map_or}
 use Rattle.std.specs.Str.{bytes_eq}
 use Rattle.np_frac.specs.Ratio.{Ratio}
 use Rattle.np_frac.specs.Text.{number}
@@ -11,26 +11,16 @@ use Rattle.net_csv.specs.declared.refused.Code.{Code}
 use Rattle.net_csv.specs.declared.refused.Code.TheVariants as code
 use Rattle.net_csv.specs.declared.refused.Tail.{Tail}
 use Rattle.net_csv.specs.declared.refused.Tail.TheVariants as tail
-use Rattle.np_records.specs.Faults.{first_fault, unless}
-use Rattle.net_csv.specs.Fields.{fields_fault, is_period}
-use Rattle.net_csv.specs.Network.{is_kind, node_names, supplies_of, supply_from, flows_of}
+use Rattle.np_records.specs.Faults.{first_fault, first_place, unless}
+use Rattle.np_records.specs.Rows.{is_kind, has_fields, is_period, row_at, body_before}
+use Rattle.net_csv.specs.Fields.{fields_fault}
+use Rattle.net_csv.specs.Network.{defined_nodes, supplies_of, supply_from, flows_of}
 use Rattle.net_csv.specs.Faults.{body_fault}
-
--- ---- the first place with a fault
-
--- what the first element gives that gives something
-abbrev pub found : {X Y : Type 0} → (X → Option Y) → List X → Option Y
-found f [] = None
-found f (x ∷ xs) = option_or (f x) (found f xs)
-
--- the first of so many places, from 0, that has a fault, with the fault; None where none has
-abbrev pub first_place : {C : Type 0} → (ℕ → Option C) → ℕ → Option (ℕ × C)
-first_place fault_at places = found (λ place. option_map (λ c. (place, c)) (fault_at place)) (range_with_len 0 places)
 
 -- ---- the records at the head
 
 abbrev pub is_header : List (List ℕ) → Bool
-is_header r = (length r == 2) && bytes_eq (field_of r 0) (codes "netplan") && bytes_eq (field_of r 1) (codes "1")
+is_header r = has_fields 2 r && is_kind r (codes "netplan") && bytes_eq (field_of r 1) (codes "1")
 
 abbrev pub periods_fault : List (List ℕ) → Option Code
 periods_fault r =
@@ -40,10 +30,6 @@ periods_fault r =
     ∷ unless (is_period 20000 (field_of r 1)) code.BadPeriod
     ∷ [])
 
--- the record at a place, from 0; no fields where there is none
-abbrev pub row_at : List (List (List ℕ)) → ℕ → List (List ℕ)
-row_at rows place = unwrap_or (slice_get rows place) []
-
 -- the number of periods of the text
 abbrev pub periods_in : List (List (List ℕ)) → ℕ
 periods_in rows = number (field_of (row_at rows 1) 1)
@@ -52,10 +38,6 @@ periods_in rows = number (field_of (row_at rows 1) 1)
 
 abbrev pub is_end : List (List ℕ) → Bool
 is_end r = is_kind r (codes "end")
-
--- the records between the head and the one at a place
-abbrev pub body_before : List (List (List ℕ)) → ℕ → List (List (List ℕ))
-body_before rows place = drop 2 (take place rows)
 
 -- the records between the head and the first `end`
 abbrev pub body_of : List (List (List ℕ)) → List (List (List ℕ))
@@ -98,13 +80,13 @@ read_records tail rows = option_map_or (λ first. Err (first.0 + 1, first.1)) (t
 
 -- the supply at a place of the scheme
 abbrev pub supply_at : List (List (List ℕ)) → ℕ → Ratio
-supply_at body place = supply_from (length (node_names body)) (supplies_of body) place
+supply_at body place = supply_from (length (defined_nodes body)) (supplies_of body) place
 
 -- the scheme of a text without a fault
 pub record IsSchemeOf (rows : List (List (List ℕ))) (scheme : Scheme) : Type 0 where
   pub periods : scheme.periods ≡ periods_in rows
-  pub nodes : scheme.nodes ≡ node_names (body_of rows)
-  pub supply : scheme.supply ≡ map (supply_at (body_of rows)) (range_with_len 0 (periods_in rows * length (node_names (body_of rows))))
+  pub nodes : scheme.nodes ≡ defined_nodes (body_of rows)
+  pub supply : scheme.supply ≡ map (supply_at (body_of rows)) (range_with_len 0 (periods_in rows * length (defined_nodes (body_of rows))))
   pub flows : scheme.flows ≡ flows_of (body_of rows)
 
 -- the records are those of some scheme

@@ -12,15 +12,13 @@ ghost use Rattle.net_csv.specs.Steps.Tables.{HasRoom, IsMadeOf, IsReady, TakesRe
 
 use crate::fields::{amount, fields, new_name, period, upper, used_name};
 use crate::given::Given;
-use crate::kinds::{bounds_place, ends, flow_kind, is_flow, is_kind};
-use crate::numbers::{
-    Numbers, bounds, is_finite, is_wide, periods_of, read_numbers, room_of_arcs, room_of_nodes,
-};
+use crate::kinds::{bounds_place, ends, flow_kind, is_flow};
+use crate::numbers::{Numbers, arcs_of, bounds, read_numbers, room_of_arcs, room_of_nodes};
 use crate::refused::{Code, Stop};
 use crate::supply::supply_of;
 use np_frac::{Frac, Memory};
 use np_model::{Band, Bands, Flow, FlowKind, Flows, Name, Names, Scheme, Upper};
-use np_records::{ByteRecord, NameTable, field};
+use np_records::{ByteRecord, NameTable, field, is_kind};
 use std::alloc::Global;
 use std::marker::Model;
 
@@ -82,8 +80,8 @@ fn has_finite_end(flow: &Flow) -> bool
     ensures { result ≡ has_finite_end flow.now }
 {
     match flow.bands.items.last() {
-        Some(band) => is_finite(&band.width),
-        None => is_finite(&flow.upper),
+        Some(band) => band.width.is_finite(),
+        None => flow.upper.is_finite(),
     }
 }
 
@@ -105,13 +103,13 @@ fn test_band(periods: u32, arcs: usize, band: &Band, flow: &Flow) -> Result<usiz
     if !has_finite_end(flow) {
         return Err(Code::PieceAfterInfinite);
     }
-    if !is_wide(&band.width) {
+    if !band.width.is_above(Frac::whole(0)) {
         return Err(Code::BadBounds);
     }
     if band.slope.is_below(present_slope(flow)) {
         return Err(Code::NotConvex);
     }
-    let arcs = arcs + periods_of(periods, &flow.kind);
+    let arcs = arcs + arcs_of(periods, &flow.kind);
     room_of_arcs(arcs)?;
     Ok(arcs)
 }
@@ -225,7 +223,7 @@ impl Draft {
     {
         let name = field(row, 1);
         let head = self.read_head(row)?;
-        let arcs = self.arcs + periods_of(self.periods, &head.kind);
+        let arcs = self.arcs + arcs_of(self.periods, &head.kind);
         room_of_arcs(arcs)?;
         let flow = plain_flow(alloc, name, head)?;
         self.push_flow(alloc, name, flow, arcs)?;

@@ -12,11 +12,10 @@ ghost use Rattle.net_csv.specs.Reading.{IsRefusal, ReadsScheme};
 ghost use Rattle.net_csv.specs.Steps.Reading.{IsHeadRead, IsTextRead, IsWholeRead, RefusesAt};
 
 use crate::draft::Draft;
-use crate::fields::{fields, whole_period};
-use crate::kinds::is_kind;
+use crate::fields::fields;
 use crate::refused::{Code, Refused, Stop, Tail};
 use np_model::Scheme;
-use np_records::{ByteRecord, Records, field};
+use np_records::{ByteRecord, Records, field, is_kind, period};
 use std::alloc::Global;
 
 const MAX_PERIODS: u32 = 20_000;
@@ -44,7 +43,7 @@ fn read_periods(row: &ByteRecord) -> Result<u32, Code>
         return Err(Code::Header);
     }
     fields(row, 2)?;
-    match whole_period(MAX_PERIODS, field(row, 1)) {
+    match period(MAX_PERIODS, field(row, 1)) {
         Some(periods) => Ok(periods),
         None => Err(Code::BadPeriod),
     }

@@ -5,7 +5,8 @@ use Rattle.np_records.specs.Faults.{unless}
 use Rattle.net_csv.specs.declared.refused.Code.TheVariants as code
 use Rattle.net_csv.specs.declared.refused.Refused.{Refused}
 use Rattle.net_csv.specs.declared.refused.Tail.{Tail}
-use Rattle.net_csv.specs.Grammar.{row_at, is_header, periods_fault, periods_in, is_end, body_before, body_of, fault_at, count_of, read_records}
+use Rattle.np_records.specs.Rows.{row_at, body_before}
+use Rattle.net_csv.specs.Grammar.{is_header, periods_fault, periods_in, is_end, body_of, fault_at, count_of, read_records}
 use Rattle.net_csv.specs.Reading.{IsRefusal}
 use Rattle.net_csv.specs.Steps.Tables.{Tables, IsReady, tables_of}
 
