@@ -2,3 +2,4 @@
 pub mod Tables
 pub mod Supply
 pub mod Reading
+pub mod Writing

@@ -1,6 +1,7 @@
 //! Texts of records.
 
 ghost use Rattle.std.specs.Prelude.{◌≡◌, ◌↔◌, ◌++◌, ◌∷◌, [], false, IfOk, OnOk, IsErr, IsTrue, map, decimal};
+ghost use Rattle.np_frac.specs.Fits.{Fits};
 ghost use Rattle.np_frac.specs.Text.{printed};
 ghost use Rattle.np_records.specs.Texts.{record_text};
 
@@ -85,6 +86,7 @@ impl Text {
     /// Adds a fraction to the open record, as `word` adds its printed form.
     pub fn fraction(&mut self, value: Frac) -> Result<(), Memory>
         ensures fields { OnOk result (self.new.fields ≡ self.old.fields ++ printed value ∷ []) }
+        ensures fits { OnOk result (Fits value) }
         ensures bytes { OnOk result (self.new.bytes ≡ self.old.bytes) }
         ensures failed { IsTrue self.new.failed ↔ IsErr result }
         ensures stays_failed { IsTrue self.old.failed → IsErr result }
