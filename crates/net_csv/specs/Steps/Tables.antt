@@ -8,7 +8,9 @@ use Rattle.np_model.specs.declared.scheme.FlowKind.{FlowKind}
 use Rattle.np_model.specs.declared.scheme.Band.{Band}
 use Rattle.np_model.specs.declared.scheme.Flow.{Flow}
 use Rattle.np_model.specs.declared.scheme.Scheme.{Scheme}
-use Rattle.np_model.specs.Valid.{AreNames, IsSound, periods_of, expanded_arcs}
+use Rattle.np_model.specs.Scheme.Names.{AreNames}
+use Rattle.np_model.specs.Scheme.Valid.{IsSound, expanded_arcs}
+use Rattle.np_model.specs.Scheme.Kinds.{periods_of}
 use Rattle.net_csv.specs.declared.refused.Code.{Code}
 use Rattle.net_csv.specs.declared.refused.Refused.{Refused}
 use Rattle.net_csv.specs.declared.refused.Refused.TheVariants as refused
@@ -17,8 +19,10 @@ use Rattle.net_csv.specs.declared.refused.Stop.TheVariants as stop
 use Rattle.net_csv.specs.declared.given.Given.{Given}
 use Rattle.net_csv.specs.declared.draft.Head.{Head}
 use Rattle.net_csv.specs.declared.numbers.Numbers.{Numbers}
-use Rattle.net_csv.specs.Fields.{fields_fault, upper_of, period_of, place_in}
-use Rattle.net_csv.specs.Network.{is_kind, is_flow, kind_in, bounds_place, node_names, flow_names, supplies_of, supply_from, flows_of}
+use Rattle.net_csv.specs.Fields.{fields_fault, upper_of, period_of}
+use Rattle.np_records.specs.Names.{place_in}
+use Rattle.np_records.specs.Rows.{is_kind}
+use Rattle.net_csv.specs.Network.{is_flow, kind_in, bounds_place, defined_nodes, defined_flows, supplies_of, supply_from, flows_of}
 use Rattle.net_csv.specs.Faults.{record_fault, band_of}
 
 pub record Tables : Type 0 where
@@ -33,8 +37,8 @@ pub record Tables : Type 0 where
 unfoldable pub tables_of : ℕ → List (List (List ℕ)) → Tables
 tables_of periods rows = record {
   periods = periods;
-  nodes = node_names rows;
-  names = flow_names rows;
+  nodes = defined_nodes rows;
+  names = defined_flows rows;
   supplies = supplies_of rows;
   flows = flows_of rows;
   arcs = expanded_arcs periods (flows_of rows);
@@ -89,9 +93,9 @@ StopsFor (stop.Fault c) fault = fault ≡ Some c
 StopsFor stop.Memory fault = ⊤
 
 -- without a fault the tables are these; else it stopped
-abbrev pub Takes : {U : Type 0} → Result U Stop → Option Code → Tables → Tables → Type 0
-Takes (Ok done) fault new made = (fault ≡ None) × (new ≡ made)
-Takes (Err why) fault new made = StopsFor why fault
+abbrev pub TakesRecord : {U : Type 0} → Result U Stop → Option Code → Tables → Tables → Type 0
+TakesRecord (Ok done) fault new made = (fault ≡ None) × (new ≡ made)
+TakesRecord (Err why) fault new made = StopsFor why fault
 
 -- ---- a record more
 
