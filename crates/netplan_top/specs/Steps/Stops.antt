@@ -1,10 +1,10 @@
 -- Why reading stopped.
 use Rattle.net_csv.specs.declared.refused.Refused.{Refused}
 use Rattle.net_csv.specs.declared.refused.Refused.TheVariants as refused
-use Rattle.certificates.specs.declared.refused.Refused.{Refused as PlanRefused}
-use Rattle.certificates.specs.declared.refused.Refused.TheVariants as plan_refused
-use Rattle.netplan_top.specs.declared.stop.Stop.{Stop}
-use Rattle.netplan_top.specs.declared.stop.Stop.TheVariants as stop
+use Rattle.certificates.specs.declared.refused.PlanRefused.{PlanRefused}
+use Rattle.certificates.specs.declared.refused.PlanRefused.TheVariants as plan_refused
+use Rattle.netplan_top.specs.declared.commands.stop.Stop.{Stop}
+use Rattle.netplan_top.specs.declared.commands.stop.Stop.TheVariants as stop
 
 -- a network text was not read
 abbrev pub network_stop : Refused → Stop

@@ -1,5 +1,5 @@
 -- The text of an expanded network: its size, its nodes, and its arcs.
-use Rattle.std.specs.Prelude.{ℕ, ◌+◌, ◌/◌, ◌%◌, List, [], ◌∷◌, ◌++◌, length, map, codes, slice_index_or}
+use Rattle.std.specs.Prelude.{ℕ, ◌+◌, ◌/◌, ◌%◌, List, [], ◌∷◌, ◌++◌, length, map, codes}
 use Rattle.std.specs.Fmt.{decimal}
 use Rattle.std.specs.List.{flat_map, enumerate_from}
 use Rattle.np_frac.specs.Ratio.{Ratio}
@@ -12,17 +12,18 @@ use Rattle.np_model.specs.declared.arc.Upper.TheVariants.{Finite, Infinite}
 use Rattle.np_model.specs.declared.arc.NetArc.{NetArc}
 use Rattle.np_model.specs.declared.scheme.Flow.{Flow}
 use Rattle.np_model.specs.declared.scheme.Scheme.{Scheme}
+use Rattle.np_model.specs.Scheme.Names.{name_at, flow_names}
 use Rattle.np_model.specs.Scheme.Plans.{staged}
 use Rattle.np_model.specs.Scheme.Segments.{Stage}
 use Rattle.convex_arcs.specs.Segments.{segment_arcs, flat_arcs}
-use Rattle.netplan_top.specs.Texts.{end_record}
+use Rattle.netplan_top.specs.Texts.Frame.{end_record}
 
 -- ---- nodes
 
 -- with k nodes, expanded node v is node v % k in period v / k + 1
 abbrev pub node_record : List (List ℕ) → ℕ × Ratio → List (List ℕ)
 node_record nodes (v, supply) =
-    codes "node" ∷ decimal v ∷ slice_index_or nodes (v % length nodes) [] ∷ decimal (v / length nodes + 1) ∷ printed supply ∷ []
+    codes "node" ∷ decimal v ∷ name_at nodes (v % length nodes) ∷ decimal (v / length nodes + 1) ∷ printed supply ∷ []
 
 -- ---- arcs
 
@@ -39,9 +40,13 @@ upper_field Infinite = codes "inf"
 abbrev pub arc_fields : NetArc → List (List ℕ)
 arc_fields a = ends_fields a.ends ++ (printed a.lower ∷ upper_field a.upper ∷ printed a.cost ∷ [])
 
--- the segments of a stage, each with its number
+-- these arcs, each with its stage and its number
+abbrev pub numbered_arcs : Stage → List NetArc → List (Stage × (ℕ × NetArc))
+numbered_arcs s arcs = map (λ segment. (s, segment)) (enumerate_from 0 arcs)
+
+-- the segments of a stage, numbered
 abbrev pub numbered_segments : Stage → List (Stage × (ℕ × NetArc))
-numbered_segments s = map (λ segment. (s, segment)) (enumerate_from 0 (segment_arcs s))
+numbered_segments s = numbered_arcs s (segment_arcs s)
 
 abbrev pub segment_arc : Stage × (ℕ × NetArc) → NetArc
 segment_arc (s, (segment, a)) = a
@@ -49,7 +54,7 @@ segment_arc (s, (segment, a)) = a
 -- the arc with this number: a segment of a stage
 abbrev pub arc_record : List Flow → ℕ × (Stage × (ℕ × NetArc)) → List (List ℕ)
 arc_record flows (number, (s, (segment, a))) =
-    codes "arc" ∷ decimal number ∷ slice_index_or (map (λ flow. flow.name) flows) s.flow [] ∷ decimal s.period ∷ decimal segment ∷ arc_fields a
+    codes "arc" ∷ decimal number ∷ name_at (flow_names flows) s.flow ∷ decimal s.period ∷ decimal segment ∷ arc_fields a
 
 -- ---- the whole
 
