@@ -11,6 +11,7 @@ mod OutlineFacts
 mod PeriodAmounts
 mod PlanRead
 mod OnePlan
+mod StandsFor
 mod Runs
 mod WrittenWords
 mod WrittenSteps

@@ -12,7 +12,7 @@ use Rattle.certificates.specs.Claims.{Claims, claims_of, outline_of}
 use Rattle.certificates.specs.Grammar.{IsMadeOf, IsPlanOf, body_of, amount_of, flows_of, prices_of, ray_of, arc_of, passed_of}
 
 -- the plan of a verdict with these claims
-abbrev plan_with : Scheme → Claims → Verdict → Plan
+abbrev pub plan_with : Scheme → Claims → Verdict → Plan
 plan_with scheme t v = record {
   verdict = v;
   amount = amount_of v t;

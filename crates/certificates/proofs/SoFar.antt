@@ -106,7 +106,7 @@ so_far-fault skip o verdict rows left place t r s =
     let last : body_fault o (Some verdict) (drop 2 s.before) r ≡ (if is_end r then end_fault verdict t r else record_fault o t r) = rw (s.going, sym s.claims) refl in
     next ∙ last
 
-so_far-size : (skip : ℕ) (o : Outline) (verdict : Verdict) (rows left : List (List (List ℕ))) (place : ℕ) (t : Claims) → (s : IsSoFar skip o verdict rows left place t) → length s.before + length left ≡ length rows
+pub so_far-size : (skip : ℕ) (o : Outline) (verdict : Verdict) (rows left : List (List (List ℕ))) (place : ℕ) (t : Claims) → (s : IsSoFar skip o verdict rows left place t) → length s.before + length left ≡ length rows
 so_far-size skip o verdict rows left place t s =
     let all = length-append s.before left in
     rw s.whole (omega arith)
