@@ -19,8 +19,8 @@ use Rattle.net_csv.proofs.Places.{place-is, place-within}
 use Rattle.net_csv.proofs.RowKinds.{kind-is}
 use Rattle.net_csv.proofs.FieldFacts.{and-left, and-right}
 use Rattle.np_records.proofs.FaultFacts.{or-first, or-rest, unless-none}
-use Rattle.certificates.specs.declared.refused.Code.{Code}
-use Rattle.certificates.specs.declared.refused.Code.TheVariants as code
+use Rattle.certificates.specs.declared.refused.PlanCode.{PlanCode}
+use Rattle.certificates.specs.declared.refused.PlanCode.TheVariants as code
 use Rattle.np_records.specs.Faults.{unless}
 use Rattle.certificates.specs.Fields.{fraction_in, whole_in, overflow_in, entry_in, fields_fault, used_fault, period_fault, given_fault}
 use Rattle.certificates.specs.Claims.{Outline, Claims, claims_of, of_kind, found, amounts_given}
@@ -30,7 +30,7 @@ use Rattle.certificates.proofs.Found.{found-same, found-new, listed-same, amount
 
 -- ---- what a record without a fault has
 
-last-of-three : (a b c : Option Code) → option_or a (option_or b (option_or c None)) ≡ None → c ≡ None
+last-of-three : (a b c : Option PlanCode) → option_or a (option_or b (option_or c None)) ≡ None → c ≡ None
 last-of-three a b c h = or-first c None (or-rest b (option_or c None) (or-rest a (option_or b (option_or c None)) h))
 
 once-free : {X Y : Type 0} (count : ℕ) (given : Option X) (before : Option Y) (r : List (List ℕ)) → once_fault count given before r ≡ None → before ≡ None

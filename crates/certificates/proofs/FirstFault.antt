@@ -3,8 +3,8 @@ use Rattle.std.specs.Prelude.{◌≡◌, ℕ, zero, suc, ◌+◌, ◌<◌, ◌�
 use Rattle.std.specs.List.{range_with_len}
 use Rattle.std.proofs.Common.{refl, arith}
 use Rattle.std.proofs.lemmas.Bool.Decides.{nat_tests}
-use Rattle.certificates.specs.declared.refused.Code.{Code}
-use Rattle.certificates.specs.declared.refused.Code.TheVariants as code
+use Rattle.certificates.specs.declared.refused.PlanCode.{PlanCode}
+use Rattle.certificates.specs.declared.refused.PlanCode.TheVariants as code
 use Rattle.certificates.specs.Claims.{Outline, found}
 use Rattle.certificates.specs.Grammar.{is_header, verdict_in, fault_at, plan_fault}
 
@@ -27,7 +27,7 @@ found-nowhere f from (suc n) none =
     let first : f from ≡ None = rw z at (none 0 (omega arith)) in
     rw first (found-nowhere f (from + 1) n (λ i l. let e : from + suc i ≡ (from + 1) + i = omega arith in rw e at (none (suc i) (omega arith))))
 
-pub refuses-at : (skip : ℕ) (o : Outline) (rows : List (List (List ℕ))) (k at : ℕ) (c : Code) → k ≤ length rows → ((i : ℕ) → i < k → fault_at o rows i ≡ None) → fault_at o rows k ≡ Some c
+pub refuses-at : (skip : ℕ) (o : Outline) (rows : List (List (List ℕ))) (k at : ℕ) (c : PlanCode) → k ≤ length rows → ((i : ℕ) → i < k → fault_at o rows i ≡ None) → fault_at o rows k ≡ Some c
     → at ≡ skip + k + 1 → plan_fault skip o rows ≡ Some (at, c)
 refuses-at skip o rows k at c h none here e =
     found-range (λ place. option_map (λ c. (skip + place + 1, c)) (fault_at o rows place)) 0 (length rows + 1) k (at, c) (omega arith)

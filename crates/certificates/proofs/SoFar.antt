@@ -6,10 +6,10 @@ use Rattle.std.proofs.lemmas.Bool.{cases_eq}
 use Rattle.std.proofs.lemmas.Bool.Decides.{nat_tests}
 use Rattle.std.proofs.lemmas.List.{length_push, length-append, take_at}
 use Rattle.np_model.specs.declared.plan.Verdict.{Verdict}
-use Rattle.certificates.specs.declared.refused.Code.{Code}
-use Rattle.certificates.specs.declared.refused.Code.TheVariants as code
-use Rattle.certificates.specs.declared.refused.Refused.{Refused}
-use Rattle.certificates.specs.declared.refused.Refused.TheVariants as refused
+use Rattle.certificates.specs.declared.refused.PlanCode.{PlanCode}
+use Rattle.certificates.specs.declared.refused.PlanCode.TheVariants as code
+use Rattle.certificates.specs.declared.refused.PlanRefused.{PlanRefused}
+use Rattle.certificates.specs.declared.refused.PlanRefused.TheVariants as refused
 use Rattle.certificates.specs.Fields.{fields_fault}
 use Rattle.certificates.specs.Claims.{Outline, Claims, claims_of}
 use Rattle.certificates.specs.Faults.{record_fault, end_fault, is_complete}
@@ -111,7 +111,7 @@ so_far-size skip o verdict rows left place t s =
     let all = length-append s.before left in
     rw s.whole (omega arith)
 
-pub so_far-refused : (skip : ℕ) (o : Outline) (verdict : Verdict) (rows left : List (List (List ℕ))) (place at : ℕ) (t : Claims) (r : List (List ℕ)) (c : Code)
+pub so_far-refused : (skip : ℕ) (o : Outline) (verdict : Verdict) (rows left : List (List (List ℕ))) (place at : ℕ) (t : Claims) (r : List (List ℕ)) (c : PlanCode)
     → IsSoFar skip o verdict rows (r ∷ left) place t → at ≡ place + 1
     → (if is_end r then end_fault verdict t r else record_fault o t r) ≡ Some c → RefusesAt (refused.Fault at c) skip o rows
 so_far-refused skip o verdict rows left place at t r c s e fault =
@@ -120,7 +120,7 @@ so_far-refused skip o verdict rows left place at t r c s e fault =
     refuses-at skip o rows (length s.before) at c (omega arith) s.none (so_far-fault skip o verdict rows left place t r s ∙ fault) (omega arith)
 
 -- what taking a row answered
-pub row-refused : (why : Refused) (skip : ℕ) (o : Outline) (verdict : Verdict) (rows left : List (List (List ℕ))) (place at : ℕ) (t u : Claims) (r : List (List ℕ))
+pub row-refused : (why : PlanRefused) (skip : ℕ) (o : Outline) (verdict : Verdict) (rows left : List (List (List ℕ))) (place at : ℕ) (t u : Claims) (r : List (List ℕ))
     → IsSoFar skip o verdict rows (r ∷ left) place t → at ≡ place + 1 → TakesRow (Err why) o verdict t u r at → RefusesAt why skip o rows
 row-refused (refused.Fault k c) skip o verdict rows left place at t u r s e h = so_far-refused skip o verdict rows left place k t r c s (h.0 ∙ e) h.1
 row-refused refused.Memory skip o verdict rows left place at t u r s e h = tt

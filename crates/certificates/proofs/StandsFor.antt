@@ -9,7 +9,7 @@ use Rattle.np_records.proofs.FaultFacts.{or-first, or-rest, unless-none}
 use Rattle.np_model.specs.declared.plan.Plan.{Plan}
 use Rattle.np_model.specs.declared.plan.Verdict.{Verdict}
 use Rattle.np_model.specs.declared.scheme.Scheme.{Scheme}
-use Rattle.certificates.specs.declared.refused.Code.TheVariants as code
+use Rattle.certificates.specs.declared.refused.PlanCode.TheVariants as code
 use Rattle.certificates.specs.Claims.{Outline, Claims, claims_of, outline_of, found}
 use Rattle.certificates.specs.Faults.{record_fault, end_fault}
 use Rattle.certificates.specs.Grammar.{is_end, is_header, verdict_in, body_before, fault_at, plan_fault, IsMadeOf}

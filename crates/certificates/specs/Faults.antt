@@ -9,14 +9,14 @@ use Rattle.np_model.specs.declared.plan.Verdict.{Verdict}
 use Rattle.np_model.specs.declared.plan.Verdict.TheVariants.{Optimal, Infeasible, Unbounded, Budget, Overflow}
 use Rattle.net_csv.specs.Fields.{is_number, place_in}
 use Rattle.net_csv.specs.Network.{is_kind}
-use Rattle.certificates.specs.declared.refused.Code.{Code}
-use Rattle.certificates.specs.declared.refused.Code.TheVariants as code
+use Rattle.certificates.specs.declared.refused.PlanCode.{PlanCode}
+use Rattle.certificates.specs.declared.refused.PlanCode.TheVariants as code
 use Rattle.np_records.specs.Faults.{unless, first_fault}
 use Rattle.certificates.specs.Fields.{fields_fault, used_fault, period_fault, given_fault, fraction_in, whole_in, overflow_in, entry_in}
 use Rattle.certificates.specs.Claims.{Outline, Claims, place_with}
 
 -- a record that may stand once, with so many fields, which gives something
-abbrev pub once_fault : {X Y : Type 0} → ℕ → Option X → Option Y → List (List ℕ) → Option Code
+abbrev pub once_fault : {X Y : Type 0} → ℕ → Option X → Option Y → List (List ℕ) → Option PlanCode
 once_fault count given before r =
     first_fault (
     fields_fault count r
@@ -33,11 +33,11 @@ abbrev pub is_free : List (Option Ratio) → ℕ → Bool
 is_free given place = not (is_some (unwrap_or (slice_get given place) None))
 
 -- a name that an amount is for
-abbrev pub name_fault : List (List ℕ) → List (List ℕ) → Option Code
+abbrev pub name_fault : List (List ℕ) → List (List ℕ) → Option PlanCode
 name_fault names r = first_fault (fields_fault 4 r ∷ used_fault names (field_of r 1) ∷ [])
 
 -- the amount, in a period up to the last one of the name
-abbrev pub put_fault : List (List ℕ) → ℕ → List (Option Ratio) → List (List ℕ) → Option Code
+abbrev pub put_fault : List (List ℕ) → ℕ → List (Option Ratio) → List (List ℕ) → Option PlanCode
 put_fault names last given r =
     first_fault (
     period_fault last (field_of r 2)
@@ -45,7 +45,7 @@ put_fault names last given r =
     ∷ unless (is_free given (place_named names r)) code.Repeated
     ∷ [])
 
-abbrev pub amount_fault : List (List ℕ) → ℕ → List (Option Ratio) → List (List ℕ) → Option Code
+abbrev pub amount_fault : List (List ℕ) → ℕ → List (Option Ratio) → List (List ℕ) → Option PlanCode
 amount_fault names last given r = option_or (name_fault names r) (put_fault names last given r)
 
 -- the last period of the flow that a record names
@@ -56,7 +56,7 @@ last_for o r = unwrap_or (slice_get o.last (place_in o.flows (field_of r 1))) 0
 abbrev pub is_next : ℕ → List ℕ → Bool
 is_next count bs = is_number 9 bs && (number bs == count + 1) && nat_le (number bs) 1000000
 
-abbrev pub pivot_fault : ℕ → List (List ℕ) → Option Code
+abbrev pub pivot_fault : ℕ → List (List ℕ) → Option PlanCode
 pivot_fault count r =
     first_fault (
     fields_fault 5 r
@@ -65,7 +65,7 @@ pivot_fault count r =
     ∷ [])
 
 -- a record that is not `end`, by its first field
-abbrev pub record_fault : Outline → Claims → List (List ℕ) → Option Code
+abbrev pub record_fault : Outline → Claims → List (List ℕ) → Option PlanCode
 record_fault o claims r =
     if is_kind r (codes "cost") then once_fault 2 (fraction_in (field_of r 1)) claims.cost r
     else if is_kind r (codes "gap") then once_fault 2 (fraction_in (field_of r 1)) claims.gap r
@@ -87,5 +87,5 @@ is_complete Budget claims = is_some claims.arc
 is_complete Overflow claims = is_some claims.passed
 
 -- `end`
-abbrev pub end_fault : Verdict → Claims → List (List ℕ) → Option Code
+abbrev pub end_fault : Verdict → Claims → List (List ℕ) → Option PlanCode
 end_fault verdict claims r = first_fault (fields_fault 1 r ∷ unless (is_complete verdict claims) code.Missing ∷ [])

@@ -15,8 +15,8 @@ use Rattle.np_model.specs.declared.plan.Place.TheVariants.{Node, Arc, Turn, Chec
 use Rattle.np_model.specs.declared.plan.Overflow.{Overflow}
 use Rattle.net_csv.specs.Fields.{is_number, is_period}
 use Rattle.np_records.specs.Faults.{unless}
-use Rattle.certificates.specs.declared.refused.Code.{Code}
-use Rattle.certificates.specs.declared.refused.Code.TheVariants as code
+use Rattle.certificates.specs.declared.refused.PlanCode.{PlanCode}
+use Rattle.certificates.specs.declared.refused.PlanCode.TheVariants as code
 use Rattle.certificates.specs.Words.{mark_of, op_of, row_of, check_row_of}
 
 -- ---- numbers
@@ -43,18 +43,18 @@ whole_in bs = if is_number 9 bs then Some (number bs) else None
 
 -- ---- faults
 
-abbrev pub fields_fault : ℕ → List (List ℕ) → Option Code
+abbrev pub fields_fault : ℕ → List (List ℕ) → Option PlanCode
 fields_fault count r = unless (length r == count) code.FieldCount
 
 -- a name that is used, where these are defined
-abbrev pub used_fault : List (List ℕ) → List ℕ → Option Code
+abbrev pub used_fault : List (List ℕ) → List ℕ → Option PlanCode
 used_fault names name = unless (is_some (place_of names name)) code.NoSuchName
 
-abbrev pub period_fault : ℕ → List ℕ → Option Code
+abbrev pub period_fault : ℕ → List ℕ → Option PlanCode
 period_fault last bs = unless (is_period last bs) code.BadPeriod
 
 -- a field is wrong where it gives nothing
-abbrev pub given_fault : {X : Type 0} → Option X → Option Code
+abbrev pub given_fault : {X : Type 0} → Option X → Option PlanCode
 given_fault given = unless (is_some given) code.BadNumber
 
 -- ---- what fields give together

@@ -12,8 +12,8 @@ use Rattle.np_model.specs.declared.plan.Overflow.{Overflow}
 use Rattle.np_model.specs.declared.plan.Plan.{Plan}
 use Rattle.np_model.specs.Schemes.{staged}
 use Rattle.net_csv.specs.Network.{is_kind}
-use Rattle.certificates.specs.declared.refused.Code.{Code}
-use Rattle.certificates.specs.declared.refused.Code.TheVariants as code
+use Rattle.certificates.specs.declared.refused.PlanCode.{PlanCode}
+use Rattle.certificates.specs.declared.refused.PlanCode.TheVariants as code
 use Rattle.certificates.specs.Words.{verdict_of}
 use Rattle.np_records.specs.Faults.{unless}
 use Rattle.certificates.specs.Claims.{Outline, Claims, outline_of, found, place_with, claims_of}
@@ -42,14 +42,14 @@ abbrev pub body_before : List (List (List ℕ)) → ℕ → List (List (List ℕ
 body_before rows place = drop 2 (take place rows)
 
 -- a record of the body, where these stand before it
-abbrev pub body_fault : Outline → Option Verdict → List (List (List ℕ)) → List (List ℕ) → Option Code
+abbrev pub body_fault : Outline → Option Verdict → List (List (List ℕ)) → List (List ℕ) → Option PlanCode
 body_fault o verdict before r =
     if list_any is_end before then Some code.AfterEnd
     else if is_end r then option_and_then (λ v. end_fault v (claims_of o before) r) verdict
     else record_fault o (claims_of o before) r
 
 -- what is wrong at a place, from 0, where all records before it are right; behind the last record `end` is missing where it was not read
-abbrev pub fault_at : Outline → List (List (List ℕ)) → ℕ → Option Code
+abbrev pub fault_at : Outline → List (List (List ℕ)) → ℕ → Option PlanCode
 fault_at o rows place =
     let r = row_at rows place in
     if not (nat_lt place (length rows)) then unless (list_any is_end (body_before rows place)) code.NoEnd
@@ -58,7 +58,7 @@ fault_at o rows place =
     else body_fault o (verdict_in (row_at rows 1)) (body_before rows place) r
 
 -- the number of the record with the first fault, where so many stand before the plan text, and the fault; None where there is none
-abbrev pub plan_fault : ℕ → Outline → List (List (List ℕ)) → Option (ℕ × Code)
+abbrev pub plan_fault : ℕ → Outline → List (List (List ℕ)) → Option (ℕ × PlanCode)
 plan_fault skip o rows = found (λ place. option_map (λ c. (skip + place + 1, c)) (fault_at o rows place)) (range_with_len 0 (length rows + 1))
 
 -- ---- the plan

@@ -9,9 +9,9 @@ use Rattle.np_model.specs.declared.plan.Plan.{Plan}
 use Rattle.np_model.specs.declared.plan.Verdict.{Verdict}
 use Rattle.np_model.specs.Fits.{PlanFits}
 use Rattle.net_csv.specs.Network.{is_kind}
-use Rattle.certificates.specs.declared.refused.Code.{Code}
-use Rattle.certificates.specs.declared.refused.Refused.{Refused}
-use Rattle.certificates.specs.declared.refused.Refused.TheVariants as refused
+use Rattle.certificates.specs.declared.refused.PlanCode.{PlanCode}
+use Rattle.certificates.specs.declared.refused.PlanRefused.{PlanRefused}
+use Rattle.certificates.specs.declared.refused.PlanRefused.TheVariants as refused
 use Rattle.certificates.specs.declared.refused.Stop.{Stop}
 use Rattle.certificates.specs.declared.refused.Stop.TheVariants as stop
 use Rattle.certificates.specs.Fields.{fraction_in, whole_in, overflow_in, entry_in}
@@ -24,7 +24,7 @@ use Rattle.std.specs.List.{All, filter_map, enumerate_from, list_any}
 -- ---- the whole
 
 -- the answer is what the grammar tells of the records behind so many, unless memory ran out: the plan of the text, or its first fault
-abbrev pub ReadsPlan : ℕ → Scheme → List (List (List ℕ)) → Result Plan Refused → Type 0
+abbrev pub ReadsPlan : ℕ → Scheme → List (List (List ℕ)) → Result Plan PlanRefused → Type 0
 ReadsPlan skip scheme rows (Ok plan) = (plan_fault skip (outline_of scheme) rows ≡ None) × IsPlanOf scheme rows plan × PlanFits scheme plan
 ReadsPlan skip scheme rows (Err (refused.Fault place c)) = plan_fault skip (outline_of scheme) rows ≡ Some (place, c)
 ReadsPlan skip scheme rows (Err refused.Memory) = ⊤
@@ -47,17 +47,17 @@ pub record HasPlaces (o : Outline) (claims : Claims) : Type 0 where
   pub few : length claims.entries ≤ 1000000
 
 -- it stopped for this fault, or memory ran out
-abbrev pub StopsFor : Stop → Option Code → Type 0
+abbrev pub StopsFor : Stop → Option PlanCode → Type 0
 StopsFor (stop.Fault c) fault = fault ≡ Some c
 StopsFor stop.Memory fault = ⊤
 
 -- without a fault the claims are these; else it stopped
-abbrev pub Takes : {U : Type 0} → Result U Stop → Option Code → Claims → Claims → Type 0
+abbrev pub Takes : {U : Type 0} → Result U Stop → Option PlanCode → Claims → Claims → Type 0
 Takes (Ok done) fault new made = (fault ≡ None) × (new ≡ made)
 Takes (Err why) fault new made = StopsFor why fault
 
 -- without a fault the amounts are these
-abbrev pub Puts : {U : Type 0} → Result U Code → Option Code → List (Option Ratio) → List (Option Ratio) → Type 0
+abbrev pub Puts : {U : Type 0} → Result U PlanCode → Option PlanCode → List (Option Ratio) → List (Option Ratio) → Type 0
 Puts (Ok done) fault new made = (fault ≡ None) × (new ≡ made)
 Puts (Err c) fault new made = fault ≡ Some c
 
@@ -89,7 +89,7 @@ period_amounts given scheme period =
     filter_map (λ (number, flow). amount_in given scheme period number flow.kind) (enumerate_from 0 scheme.flows)
 
 -- what was found at a record with this number: whether it is `end`, or the fault
-abbrev pub TakesRow : Result Bool Refused → Outline → Verdict → Claims → Claims → List (List ℕ) → ℕ → Type 0
+abbrev pub TakesRow : Result Bool PlanRefused → Outline → Verdict → Claims → Claims → List (List ℕ) → ℕ → Type 0
 TakesRow (Ok true) o verdict old new r place = (is_end r ≡ true) × (end_fault verdict old r ≡ None) × (new ≡ old)
 TakesRow (Ok false) o verdict old new r place = (is_end r ≡ false) × (record_fault o old r ≡ None) × (new ≡ with_record o old r)
 TakesRow (Err (refused.Fault at c)) o verdict old new r place =
@@ -97,12 +97,12 @@ TakesRow (Err (refused.Fault at c)) o verdict old new r place =
 TakesRow (Err refused.Memory) o verdict old new r place = ⊤
 
 -- reading stops at this fault, or memory ran out
-abbrev pub RefusesAt : Refused → ℕ → Outline → List (List (List ℕ)) → Type 0
+abbrev pub RefusesAt : PlanRefused → ℕ → Outline → List (List (List ℕ)) → Type 0
 RefusesAt (refused.Fault place c) skip o rows = plan_fault skip o rows ≡ Some (place, c)
 RefusesAt refused.Memory skip o rows = ⊤
 
 -- the same at the two records of the head, whatever the plan may speak of
-abbrev pub RefusesHead : Refused → ℕ → List (List (List ℕ)) → Type 0
+abbrev pub RefusesHead : PlanRefused → ℕ → List (List (List ℕ)) → Type 0
 RefusesHead refused skip rows = (o : Outline) → RefusesAt refused skip o rows
 
 -- the two records at the head are right

@@ -11,21 +11,21 @@ use Rattle.np_model.specs.declared.plan.Row.{Row}
 use Rattle.np_model.specs.declared.plan.Row.TheVariants.{A1, A2, A3, A4, A5, A6, A7, A8}
 use Rattle.np_model.specs.declared.plan.CheckRow.{CheckRow}
 use Rattle.np_model.specs.declared.plan.CheckRow.TheVariants.{C0, C1, C2, C3, C4, C5, C6}
-use Rattle.certificates.specs.declared.refused.Code.{Code}
-use Rattle.certificates.specs.declared.refused.Code.TheVariants.{Header, Unknown, FieldCount, NoSuchName, BadPeriod, BadNumber, Repeated, Missing, NoEnd, AfterEnd}
+use Rattle.certificates.specs.declared.refused.PlanCode.{PlanCode}
+use Rattle.certificates.specs.declared.refused.PlanCode.TheVariants.{Header, Unknown, FieldCount, NoSuchName, BadPeriod, BadNumber, Repeated, Missing, NoEnd, AfterEnd}
 
 -- the word of a fault, as it is printed
-unfoldable pub code_word : Code → List ℕ
-code_word Header = codes "Header"
-code_word Unknown = codes "Unknown"
-code_word FieldCount = codes "FieldCount"
-code_word NoSuchName = codes "NoSuchName"
-code_word BadPeriod = codes "BadPeriod"
-code_word BadNumber = codes "BadNumber"
-code_word Repeated = codes "Repeated"
-code_word Missing = codes "Missing"
-code_word NoEnd = codes "NoEnd"
-code_word AfterEnd = codes "AfterEnd"
+unfoldable pub plan_code_word : PlanCode → List ℕ
+plan_code_word Header = codes "Header"
+plan_code_word Unknown = codes "Unknown"
+plan_code_word FieldCount = codes "FieldCount"
+plan_code_word NoSuchName = codes "NoSuchName"
+plan_code_word BadPeriod = codes "BadPeriod"
+plan_code_word BadNumber = codes "BadNumber"
+plan_code_word Repeated = codes "Repeated"
+plan_code_word Missing = codes "Missing"
+plan_code_word NoEnd = codes "NoEnd"
+plan_code_word AfterEnd = codes "AfterEnd"
 
 -- ---- the words, and what they stand for
 

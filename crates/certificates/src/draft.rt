@@ -17,7 +17,7 @@ use crate::fields::{
     entry, fields, fraction, is_given, is_kind, is_new, overflow, period, used_name, whole,
 };
 use crate::index::{Index, periods_of};
-use crate::refused::{Code, Stop};
+use crate::refused::{PlanCode, Stop};
 use np_frac::{Frac, Memory};
 use np_model::{Entries, Entry, FlowKind, Fracs, Log, Overflow, Plan, Scheme, Verdict};
 use np_records::{ByteRecord, NameTable, field};
@@ -58,7 +58,7 @@ impl Model for Draft {
 }
 
 // The place of the name of a record in the period of the record.
-fn place(names: &NameTable, number: usize, last: u32, row: &ByteRecord) -> Result<usize, Code>
+fn place(names: &NameTable, number: usize, last: u32, row: &ByteRecord) -> Result<usize, PlanCode>
     requires named { number ≡ place_in names.now (field_of (fields_of row.now) 1) }
     requires within { number < length names.now }
     requires few { last ≤ 20000 }
@@ -71,7 +71,7 @@ fn place(names: &NameTable, number: usize, last: u32, row: &ByteRecord) -> Resul
 }
 
 // The number of the name of a record with an amount.
-fn named(names: &NameTable, row: &ByteRecord) -> Result<usize, Code>
+fn named(names: &NameTable, row: &ByteRecord) -> Result<usize, PlanCode>
     ensures value { Reads result (first_fault (fields_fault 4 (fields_of row.now) ∷ used_fault names.now (field_of (fields_of row.now) 1) ∷ []))
         (place_in names.now (field_of (fields_of row.now) 1)) }
     ensures within { IfOk result (λ number. number < length names.now) }
@@ -107,7 +107,7 @@ fn put(
     number: usize,
     last: u32,
     row: &ByteRecord,
-) -> Result<(), Code>
+) -> Result<(), PlanCode>
     requires named { number ≡ place_in names.now (field_of (fields_of row.now) 1) }
     requires within { number < length names.now }
     requires few { last ≤ 20000 }
@@ -311,7 +311,7 @@ impl Draft {
         is_given(is_next(self.entries.len(), field(row, 1)))?;
         match entry(row) {
             Some(entry) => Ok(self.push_entry(entry)?),
-            None => Err(Stop::Fault(Code::BadNumber)),
+            None => Err(Stop::Fault(PlanCode::BadNumber)),
         }
     }
 
@@ -390,7 +390,7 @@ impl Draft {
         if is_kind(row, b"pivot") {
             return self.pivot(row);
         }
-        Err(Stop::Fault(Code::Unknown))
+        Err(Stop::Fault(PlanCode::Unknown))
     }
 
     /// Whether the verdict has all that it cannot do without.

@@ -6,11 +6,11 @@ ghost use Rattle.np_records.specs.Records.{field_of};
 ghost use Rattle.csv.specs.Records.{fields_of};
 ghost use Rattle.net_csv.specs.Fields.{place_in};
 ghost use Rattle.net_csv.specs.Network.{is_kind};
-ghost use Rattle.certificates.specs.declared.refused.Code.TheVariants as code;
+ghost use Rattle.certificates.specs.declared.refused.PlanCode.TheVariants as code;
 ghost use Rattle.np_records.specs.Faults.{Reads, unless};
 ghost use Rattle.certificates.specs.Fields.{fraction_in, whole_in, fields_fault, used_fault, period_fault, place_in_row, past_in, overflow_in, entry_in};
 
-use crate::refused::Code;
+use crate::refused::PlanCode;
 use crate::words::{check_row_of, mark_of, op_of, row_of};
 use np_frac::{Frac, Past, read_frac, read_number};
 use np_model::{Entry, Overflow, Place, Row};
@@ -41,53 +41,53 @@ pub(crate) fn whole(bytes: &[u8]) -> Option<u32>
 }
 
 /// Looks whether the record has this many fields.
-pub(crate) fn fields(row: &ByteRecord, count: usize) -> Result<(), Code>
+pub(crate) fn fields(row: &ByteRecord, count: usize) -> Result<(), PlanCode>
     ensures { Reads result (fields_fault count (fields_of row.now)) tt }
 {
     if row.len() != count {
-        return Err(Code::FieldCount);
+        return Err(PlanCode::FieldCount);
     }
     Ok(())
 }
 
 /// The number of a name that is used.
-pub(crate) fn used_name(names: &NameTable, name: &[u8]) -> Result<usize, Code>
+pub(crate) fn used_name(names: &NameTable, name: &[u8]) -> Result<usize, PlanCode>
     ensures value { Reads result (used_fault names.now name.now) (place_in names.now name.now) }
     ensures within { IfOk result (λ place. place < length names.now) }
 {
-    names.index_of(name).ok_or(Code::NoSuchName)
+    names.index_of(name).ok_or(PlanCode::NoSuchName)
 }
 
 /// A period from 1 to the last one.
-pub(crate) fn period(last: u32, bytes: &[u8]) -> Result<u32, Code>
+pub(crate) fn period(last: u32, bytes: &[u8]) -> Result<u32, PlanCode>
     ensures value { Reads result (period_fault last bytes.now) (number bytes.now) }
     ensures some { IfOk result (λ period. 1 ≤ period) }
     ensures within { IfOk result (λ period. period ≤ last) }
 {
     match read_number(bytes, 9) {
-        None => Err(Code::BadPeriod),
-        Some(period) if period < 1 => Err(Code::BadPeriod),
-        Some(period) if u64::from(last) < period => Err(Code::BadPeriod),
+        None => Err(PlanCode::BadPeriod),
+        Some(period) if period < 1 => Err(PlanCode::BadPeriod),
+        Some(period) if u64::from(last) < period => Err(PlanCode::BadPeriod),
         Some(period) => Ok(period as u32),
     }
 }
 
 /// A field is wrong that gives nothing.
-pub(crate) fn is_given(given: bool) -> Result<(), Code>
+pub(crate) fn is_given(given: bool) -> Result<(), PlanCode>
     ensures { Reads result (unless given code.BadNumber) tt }
 {
     if given {
         return Ok(());
     }
-    Err(Code::BadNumber)
+    Err(PlanCode::BadNumber)
 }
 
 /// What was given before is not to be given again.
-pub(crate) fn is_new(before: bool) -> Result<(), Code>
+pub(crate) fn is_new(before: bool) -> Result<(), PlanCode>
     ensures { Reads result (unless (not before) code.Repeated) tt }
 {
     if before {
-        return Err(Code::Repeated);
+        return Err(PlanCode::Repeated);
     }
     Ok(())
 }

@@ -11,7 +11,7 @@ mod words;
 mod writing;
 
 pub use reading::read_plan;
-pub use refused::{Code, Refused};
+pub use refused::{PlanCode, PlanRefused};
 pub use words::{check_row_word, op_word};
 pub use writing::plan_text;
 

@@ -1,7 +1,7 @@
 ghost use Rattle.std.specs.Prelude.{IfOk};
 ghost use Rattle.np_model.specs.Fits.{PlanFits};
 
-use crate::{Refused, plan_text, read_plan};
+use crate::{PlanRefused, plan_text, read_plan};
 use net_csv::{Tail, read_scheme};
 use np_frac::{Op, Past, read_frac};
 use np_model::{CheckRow, Entry, Fracs, Mark, Overflow, Place, Plan, Row, Scheme, Verdict};
@@ -103,7 +103,7 @@ fn text_of<'a>(
 }
 
 // The scheme of a text, and what reading the plan behind it answers.
-fn read(alloc: Global, text: &[u8]) -> Result<(Scheme, Result<Plan, Refused>), Fail>
+fn read(alloc: Global, text: &[u8]) -> Result<(Scheme, Result<Plan, PlanRefused>), Fail>
     ensures { IfOk result (λ read. IfOk read.1 (PlanFits read.0)) }
 {
     if 100_000 < text.len() {
@@ -132,8 +132,8 @@ fn whole(alloc: Global, records: &str) -> Result<Plan, Fail> {
 fn fault(alloc: Global, text: &[u8]) -> Result<(u32, &'static [u8]), Fail> {
     match read(alloc, text)?.1 {
         Ok(_) => Err(Fail::from("a plan")),
-        Err(Refused::Memory) => Err(Fail::from("memory")),
-        Err(Refused::Fault { place, code }) => Ok((place, code.word())),
+        Err(PlanRefused::Memory) => Err(Fail::from("memory")),
+        Err(PlanRefused::Fault { place, code }) => Ok((place, code.word())),
     }
 }
 

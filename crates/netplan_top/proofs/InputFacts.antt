@@ -8,8 +8,8 @@ use Rattle.net_csv.specs.declared.refused.Refused.{Refused}
 use Rattle.net_csv.specs.declared.refused.Refused.TheVariants as refused
 use Rattle.net_csv.specs.declared.refused.Tail.TheVariants as tail
 use Rattle.certificates.specs.Reading.{ReadsPlan}
-use Rattle.certificates.specs.declared.refused.Refused.{Refused as PlanRefused}
-use Rattle.certificates.specs.declared.refused.Refused.TheVariants as plan_refused
+use Rattle.certificates.specs.declared.refused.PlanRefused.{PlanRefused}
+use Rattle.certificates.specs.declared.refused.PlanRefused.TheVariants as plan_refused
 use Rattle.netplan_top.specs.Reads.{HasNetwork, IsInputRead, IsStopOf, rest_of}
 use Rattle.netplan_top.specs.Stops.{network_stop, plan_stop}
 

@@ -5,8 +5,8 @@ use Rattle.net_csv.specs.Words.{code_word}
 use Rattle.net_csv.specs.declared.refused.Code.{Code}
 use Rattle.certificates.specs.Claims.{outline_of}
 use Rattle.certificates.specs.Grammar.{plan_fault}
-use Rattle.certificates.specs.Words.{code_word as plan_code_word}
-use Rattle.certificates.specs.declared.refused.Code.{Code as PlanCode}
+use Rattle.certificates.specs.Words.{plan_code_word}
+use Rattle.certificates.specs.declared.refused.PlanCode.{PlanCode}
 use Rattle.np_model.specs.declared.scheme.Scheme.{Scheme}
 use Rattle.np_model.specs.declared.plan.Plan.{Plan}
 use Rattle.cert_checker.specs.Walk.{walk}

@@ -7,8 +7,8 @@ use Rattle.np_io.specs.Input.{TookExactly}
 use Rattle.net_csv.specs.Words.{code_word}
 use Rattle.net_csv.specs.declared.refused.Code.{Code}
 use Rattle.net_csv.specs.declared.refused.Tail.{Tail}
-use Rattle.certificates.specs.Words.{code_word as plan_code_word}
-use Rattle.certificates.specs.declared.refused.Code.{Code as PlanCode}
+use Rattle.certificates.specs.Words.{plan_code_word}
+use Rattle.certificates.specs.declared.refused.PlanCode.{PlanCode}
 use Rattle.net_csv.specs.declared.refused.Tail.TheVariants as tail
 use Rattle.np_model.specs.declared.plan.CheckRow.{CheckRow}
 use Rattle.np_model.specs.declared.plan.Plan.{Plan}

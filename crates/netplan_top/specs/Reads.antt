@@ -10,7 +10,7 @@ use Rattle.net_csv.specs.declared.refused.Tail.{Tail}
 use Rattle.net_csv.specs.declared.refused.Tail.TheVariants as tail
 use Rattle.certificates.specs.Claims.{outline_of}
 use Rattle.certificates.specs.Grammar.{plan_fault, IsPlanOf}
-use Rattle.certificates.specs.declared.refused.Code.{Code as PlanCode}
+use Rattle.certificates.specs.declared.refused.PlanCode.{PlanCode}
 use Rattle.netplan_top.specs.declared.stop.Stop.{Stop}
 use Rattle.netplan_top.specs.declared.stop.Stop.TheVariants as stop
 

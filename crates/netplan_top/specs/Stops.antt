@@ -1,8 +1,8 @@
 -- Why reading stopped.
 use Rattle.net_csv.specs.declared.refused.Refused.{Refused}
 use Rattle.net_csv.specs.declared.refused.Refused.TheVariants as refused
-use Rattle.certificates.specs.declared.refused.Refused.{Refused as PlanRefused}
-use Rattle.certificates.specs.declared.refused.Refused.TheVariants as plan_refused
+use Rattle.certificates.specs.declared.refused.PlanRefused.{PlanRefused}
+use Rattle.certificates.specs.declared.refused.PlanRefused.TheVariants as plan_refused
 use Rattle.netplan_top.specs.declared.stop.Stop.{Stop}
 use Rattle.netplan_top.specs.declared.stop.Stop.TheVariants as stop
 

@@ -14,7 +14,7 @@ pub(crate) enum Stop {
     /// The plan text behind it has this fault there.
     Plan {
         place: u32,
-        code: certificates::Code,
+        code: certificates::PlanCode,
     },
     /// Memory ran out.
     Memory,
@@ -31,11 +31,11 @@ pub(crate) fn network_stop(refused: net_csv::Refused) -> Stop
 }
 
 /// Why a plan text was not read.
-pub(crate) fn plan_stop(refused: certificates::Refused) -> Stop
+pub(crate) fn plan_stop(refused: certificates::PlanRefused) -> Stop
     ensures { result ≡ plan_stop refused }
 {
     match refused {
-        certificates::Refused::Fault { place, code } => Stop::Plan { place, code },
-        certificates::Refused::Memory => Stop::Memory,
+        certificates::PlanRefused::Fault { place, code } => Stop::Plan { place, code },
+        certificates::PlanRefused::Memory => Stop::Memory,
     }
 }
