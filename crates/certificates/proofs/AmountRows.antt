@@ -13,7 +13,7 @@ use Rattle.net_csv.proofs.FieldFacts.{period-is}
 use Rattle.net_csv.proofs.WrittenNames.{place-own}
 use Rattle.certificates.specs.Claims.{Outline, Claims, place_with}
 use Rattle.certificates.specs.Faults.{amount_fault}
-use Rattle.certificates.specs.Reading.{with_amount, with_record}
+use Rattle.certificates.specs.Steps.Claims.{with_amount, with_record}
 use Rattle.certificates.proofs.Found.{get-slice}
 use Rattle.certificates.proofs.Rising.{Rises, filled}
 use Rattle.certificates.proofs.Runs.{IsStep, Runs}

@@ -10,7 +10,7 @@ use Rattle.np_model.specs.declared.scheme.FlowKind.TheVariants.{Link, Hold, Drai
 use Rattle.np_model.specs.declared.scheme.Scheme.{Scheme}
 use Rattle.np_model.specs.Valid.{periods_of}
 use Rattle.certificates.specs.Claims.{outline_of}
-use Rattle.certificates.specs.Reading.{IsOutline}
+use Rattle.certificates.specs.Steps.Claims.{IsOutline}
 
 few-periods : (periods : ℕ) (kind : FlowKind) → periods_of periods kind ≤ periods
 few-periods periods (Link from to gain) = omega arith

@@ -11,7 +11,7 @@ use Rattle.np_records.specs.Records.{field_of}
 use Rattle.np_model.specs.declared.scheme.Scheme.{Scheme}
 use Rattle.np_model.specs.declared.plan.Plan.{Plan}
 use Rattle.np_model.specs.declared.plan.Entry.{Entry}
-use Rattle.np_model.specs.declared.plan.Overflow.{Overflow as ThePassed}
+use Rattle.np_model.specs.declared.plan.Overflow.{Overflow as TheOverflow}
 use Rattle.np_model.specs.declared.plan.Verdict.{Verdict}
 use Rattle.np_model.specs.declared.plan.Verdict.TheVariants as verdict
 use Rattle.np_model.specs.declared.plan.Mark.TheVariants as mark
@@ -26,7 +26,7 @@ use Rattle.certificates.specs.Words.{mark_word, mark_of, row_of, check_row_of}
 use Rattle.certificates.specs.Fields.{whole_in, place_in_row, past_in, overflow_in, entry_in}
 use Rattle.certificates.specs.Claims.{claims_of, outline_of, of_kind, found}
 use Rattle.certificates.specs.Faults.{is_complete}
-use Rattle.certificates.specs.Grammar.{amount_of, flows_of, prices_of, ray_of, arc_of, passed_of, IsMadeOf}
+use Rattle.certificates.specs.Grammar.{claimed_amount, claimed_flows, claimed_prices, claimed_ray, claimed_arc, claimed_overflow, IsMadeOf}
 use Rattle.certificates.proofs.FieldFacts.{number-few}
 use Rattle.certificates.proofs.Found.{amounts-length}
 
@@ -92,8 +92,8 @@ place-has A6 bs = map-has IsNumber (PlaceFits A6) (whole_in bs) Arc (whole-has b
 place-has A7 bs = arc-or-turn A7 bs tt (map-has IsNumber (PlaceFits A7) (whole_in bs) Arc (whole-has bs) (λ x h. h))
 place-has A8 bs = map-has (λ x. ⊤) (PlaceFits A8) (check_row_of bs) Check (any-has (check_row_of bs)) (λ x h. tt)
 
-abbrev pub HasPlace : ThePassed → Type 0
-HasPlace passed = PlaceFits passed.row passed.place
+abbrev pub HasPlace : TheOverflow → Type 0
+HasPlace overflow = PlaceFits overflow.row overflow.place
 
 overflow-has : (r : List (List ℕ)) → IfSome (overflow_in r) HasPlace
 overflow-has r =
@@ -149,42 +149,42 @@ module _ (scheme : Scheme) (rows : List (List (List ℕ))) (plan : Plan) where
   unfolding claims_of
   arc-number = found-has IsNumber (of_kind (codes "arc") (λ r. whole_in (field_of r 1))) rows (λ r. kind-has IsNumber (codes "arc") (λ x. whole_in (field_of x 1)) r (whole-has (field_of r 1)))
 
-  passed-place : IfSome (claims_of (outline_of scheme) rows).passed HasPlace
+  overflow-place : IfSome (claims_of (outline_of scheme) rows).overflow HasPlace
   unfolding claims_of
-  passed-place = found-has HasPlace (of_kind (codes "past") overflow_in) rows (λ r. kind-has HasPlace (codes "past") overflow_in r (overflow-has r))
+  overflow-place = found-has HasPlace (of_kind (codes "past") overflow_in) rows (λ r. kind-has HasPlace (codes "past") overflow_in r (overflow-has r))
 
   prices-length : length (claims_of (outline_of scheme) rows).prices ≡ length scheme.supply
   unfolding claims_of
   prices-length = amounts-length (codes "price") scheme.nodes scheme.periods rows ∙ sym scheme.valid.one_each
 
-  fits-as : (v : Verdict) → plan.amount ≡ amount_of v (claims_of (outline_of scheme) rows) → plan.flows ≡ flows_of v scheme (claims_of (outline_of scheme) rows)
-      → plan.prices ≡ prices_of v (claims_of (outline_of scheme) rows) → plan.ray ≡ ray_of v scheme (claims_of (outline_of scheme) rows)
-      → plan.arc ≡ arc_of v (claims_of (outline_of scheme) rows) → plan.overflow ≡ passed_of v (claims_of (outline_of scheme) rows)
+  fits-as : (v : Verdict) → plan.amount ≡ claimed_amount v (claims_of (outline_of scheme) rows) → plan.flows ≡ claimed_flows v scheme (claims_of (outline_of scheme) rows)
+      → plan.prices ≡ claimed_prices v (claims_of (outline_of scheme) rows) → plan.ray ≡ claimed_ray v scheme (claims_of (outline_of scheme) rows)
+      → plan.arc ≡ claimed_arc v (claims_of (outline_of scheme) rows) → plan.overflow ≡ claimed_overflow v (claims_of (outline_of scheme) rows)
       → LogFits plan.log → is_complete v (claims_of (outline_of scheme) rows) ≡ true → FitsAs v scheme plan
-  fits-as verdict.Optimal amount flows prices ray arc passed log done = record {
+  fits-as verdict.Optimal amount flows prices ray arc overflow log done = record {
     amount = rw amount (is-some _ done);
     flows = ap length flows ∙ length-map (staged scheme) _;
     prices = ap length prices ∙ length-map (claims_of (outline_of scheme) rows).prices _ ∙ prices-length;
     log = log;
   }
-  fits-as verdict.Infeasible amount flows prices ray arc passed log done = record {
+  fits-as verdict.Infeasible amount flows prices ray arc overflow log done = record {
     amount = rw amount (is-some _ done);
     prices = ap length prices ∙ length-map (claims_of (outline_of scheme) rows).prices _ ∙ prices-length;
     log = log;
   }
-  fits-as verdict.Unbounded amount flows prices ray arc passed log done = record {
+  fits-as verdict.Unbounded amount flows prices ray arc overflow log done = record {
     flows = ap length flows ∙ length-map (staged scheme) _;
     ray = ap length ray ∙ length-map (staged scheme) _;
     log = log;
   }
-  fits-as verdict.Budget amount flows prices ray arc passed log done = record {
+  fits-as verdict.Budget amount flows prices ray arc overflow log done = record {
     arc = rw arc (is-some _ done);
     number = rw arc arc-number;
     log = log;
   }
-  fits-as verdict.Overflow amount flows prices ray arc passed log done = record {
-    passed = rw passed (is-some _ done);
-    place = rw passed passed-place;
+  fits-as verdict.Overflow amount flows prices ray arc overflow log done = record {
+    passed = rw overflow (is-some _ done);
+    place = rw overflow overflow-place;
     log = log;
   }
 

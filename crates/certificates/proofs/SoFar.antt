@@ -14,7 +14,8 @@ use Rattle.certificates.specs.Fields.{fields_fault}
 use Rattle.certificates.specs.Claims.{Outline, Claims, claims_of}
 use Rattle.certificates.specs.Faults.{record_fault, end_fault, is_complete}
 use Rattle.certificates.specs.Grammar.{is_end, is_header, verdict_in, row_at, body_before, body_fault, fault_at}
-use Rattle.certificates.specs.Reading.{IsOutline, HasPlaces, IsHeadRead, IsTextRead, IsWholeRead, TakesRow, RefusesAt, with_record}
+use Rattle.certificates.specs.Steps.Claims.{IsOutline, HasAmountPlaces, with_record}
+use Rattle.certificates.specs.Steps.Texts.{IsHeadRead, IsTextRead, IsWholeRead, IsRowTaken, RefusesAt}
 use Rattle.certificates.proofs.Found.{amounts-length}
 use Rattle.np_records.proofs.FaultFacts.{or-first, or-rest, unless-none}
 use Rattle.certificates.proofs.ClaimsMore.{claims-more, few-more}
@@ -33,7 +34,7 @@ pub record IsSoFar (skip : ℕ) (o : Outline) (verdict : Verdict) (rows left : L
 
 -- ---- the claims have their places
 
-places-of : (o : Outline) (rows : List (List (List ℕ))) (t : Claims) → t ≡ claims_of o rows → length t.entries ≤ 1000000 → HasPlaces o t
+places-of : (o : Outline) (rows : List (List (List ℕ))) (t : Claims) → t ≡ claims_of o rows → length t.entries ≤ 1000000 → HasAmountPlaces o t
 unfolding claims_of
 places-of o rows t e few =
     record {
@@ -43,7 +44,7 @@ places-of o rows t e few =
       few = few;
     }
 
-pub so_far-places : (skip : ℕ) (o : Outline) (verdict : Verdict) (rows left : List (List (List ℕ))) (place : ℕ) (t : Claims) → IsSoFar skip o verdict rows left place t → HasPlaces o t
+pub so_far-places : (skip : ℕ) (o : Outline) (verdict : Verdict) (rows left : List (List (List ℕ))) (place : ℕ) (t : Claims) → IsSoFar skip o verdict rows left place t → HasAmountPlaces o t
 so_far-places skip o verdict rows left place t s = places-of o (drop 2 s.before) t s.claims s.few
 
 -- ---- the head
@@ -121,7 +122,7 @@ so_far-refused skip o verdict rows left place at t r c s e fault =
 
 -- what taking a row answered
 pub row-refused : (why : PlanRefused) (skip : ℕ) (o : Outline) (verdict : Verdict) (rows left : List (List (List ℕ))) (place at : ℕ) (t u : Claims) (r : List (List ℕ))
-    → IsSoFar skip o verdict rows (r ∷ left) place t → at ≡ place + 1 → TakesRow (Err why) o verdict t u r at → RefusesAt why skip o rows
+    → IsSoFar skip o verdict rows (r ∷ left) place t → at ≡ place + 1 → IsRowTaken (Err why) o verdict t u r at → RefusesAt why skip o rows
 row-refused (refused.Fault k c) skip o verdict rows left place at t u r s e h = so_far-refused skip o verdict rows left place k t r c s (h.0 ∙ e) h.1
 row-refused refused.Memory skip o verdict rows left place at t u r s e h = tt
 

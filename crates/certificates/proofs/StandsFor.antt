@@ -1,12 +1,11 @@
 -- A plan text without a fault stands for a plan that fits the scheme.
-use Rattle.std.specs.Prelude.{◌≡◌, ℕ, zero, suc, ◌+◌, ◌<◌, ◌≤◌, nat_lt, Bool, true, false, Option, Some, None, is_some, option_map, List, [], ◌∷◌, length, if◌then◌else◌}
+use Rattle.std.specs.Prelude.{◌≡◌, ℕ, zero, suc, ◌+◌, ◌<◌, ◌≤◌, nat_lt, true, false, Option, Some, None, is_some, option_map, List, [], ◌∷◌, length, if◌then◌else◌}
 use Rattle.std.specs.List.{range_with_len, list_any}
-use Rattle.std.proofs.Common.{refl, sym, ap, ◌∙◌, inl, inr, arith}
+use Rattle.std.proofs.Common.{refl, sym, ◌∙◌, inl, inr, arith}
 use Rattle.std.proofs.lemmas.Bool.{cases_Bool}
 use Rattle.std.proofs.lemmas.Bool.Decides.{nat_tests}
 use Rattle.std.proofs.lemmas.List.{take_all}
 use Rattle.np_records.proofs.FaultFacts.{or-first, or-rest, unless-none}
-use Rattle.np_model.specs.declared.plan.Plan.{Plan}
 use Rattle.np_model.specs.declared.plan.Verdict.{Verdict}
 use Rattle.np_model.specs.declared.scheme.Scheme.{Scheme}
 use Rattle.certificates.specs.declared.refused.PlanCode.TheVariants as code
@@ -14,7 +13,8 @@ use Rattle.certificates.specs.Claims.{Outline, Claims, claims_of, outline_of, fo
 use Rattle.certificates.specs.Faults.{record_fault, end_fault}
 use Rattle.certificates.specs.Grammar.{is_end, is_header, verdict_in, body_before, fault_at, plan_fault, IsMadeOf}
 use Rattle.certificates.specs.ReadBack.{StandsForAPlan}
-use Rattle.certificates.specs.Reading.{IsOutline, IsHeadRead, IsTextRead, IsWholeRead, with_record}
+use Rattle.certificates.specs.Steps.Claims.{IsOutline, with_record}
+use Rattle.certificates.specs.Steps.Texts.{IsHeadRead, IsTextRead, IsWholeRead}
 use Rattle.certificates.proofs.OnePlan.{plan_with}
 use Rattle.certificates.proofs.OutlineFacts.{outline-is}
 use Rattle.certificates.proofs.PlanRead.{plan-read}

@@ -11,14 +11,14 @@ use Rattle.np_model.specs.declared.plan.Plan.{Plan}
 use Rattle.np_model.specs.Fits.{LogFits, FitsAs, OptimalFits, InfeasibleFits, UnboundedFits, BudgetFits, OverflowFits, PlanFits}
 use Rattle.certificates.specs.Claims.{Outline, Claims, outline_of, claims_of}
 use Rattle.certificates.specs.Faults.{is_complete}
-use Rattle.certificates.specs.Grammar.{plan_fault, body_of, amount_of, flows_of, prices_of, ray_of, arc_of, passed_of, IsMadeOf, IsPlanOf}
-use Rattle.certificates.specs.Reading.{IsWholeRead}
+use Rattle.certificates.specs.Grammar.{plan_fault, body_of, claimed_amount, claimed_flows, claimed_prices, claimed_ray, claimed_arc, claimed_overflow, IsMadeOf, IsPlanOf}
+use Rattle.certificates.specs.Steps.Texts.{IsWholeRead}
 use Rattle.certificates.specs.Words.{verdict_word}
 use Rattle.certificates.specs.Writing.{claim_rows, shown_rows, log_rows, inner_rows, plan_rows, printed_parts, told, HasFractions}
 use Rattle.certificates.proofs.Found.{amounts-none}
 use Rattle.certificates.proofs.OutlineFacts.{outline-is}
 use Rattle.certificates.proofs.WrittenWords.{verdict-back}
-use Rattle.certificates.proofs.WrittenSteps.{runs-cost, runs-gap, runs-arc, runs-passed, runs-log}
+use Rattle.certificates.proofs.WrittenSteps.{runs-cost, runs-gap, runs-arc, runs-overflow, runs-log}
 use Rattle.certificates.proofs.WrittenAmounts.{runs-flows, runs-ray, runs-prices}
 use Rattle.certificates.proofs.Runs.{Runs, runs-append, runs-whole}
 
@@ -28,7 +28,7 @@ record IsNew (scheme : Scheme) (t : Claims) : Type 0 where
   cost : t.cost ≡ None
   gap : t.gap ≡ None
   arc : t.arc ≡ None
-  passed : t.passed ≡ None
+  overflow : t.overflow ≡ None
   flows : t.flows ≡ replicate (scheme.periods * length scheme.flows) None
   prices : t.prices ≡ replicate (scheme.periods * length scheme.nodes) None
   ray : t.ray ≡ replicate (scheme.periods * length scheme.flows) None
@@ -44,7 +44,7 @@ new-claims scheme =
       cost = refl;
       gap = refl;
       arc = refl;
-      passed = refl;
+      overflow = refl;
       flows = sym (amounts-none (scheme.periods * length scheme.flows) (codes "flow") o.flows o.periods names);
       prices = sym (amounts-none (scheme.periods * length scheme.nodes) (codes "price") o.nodes o.periods refl);
       ray = sym (amounts-none (scheme.periods * length scheme.flows) (codes "ray") o.flows o.periods names);
@@ -89,12 +89,12 @@ printed-verdict verdict.Overflow plan = refl
 
 -- the parts of a plan of this verdict are those of the claims
 record HasParts (v : Verdict) (scheme : Scheme) (t : Claims) (plan : Plan) : Type 0 where
-  amount : plan.amount ≡ amount_of v t
-  flows : plan.flows ≡ flows_of v scheme t
-  prices : plan.prices ≡ prices_of v t
-  ray : plan.ray ≡ ray_of v scheme t
-  arc : plan.arc ≡ arc_of v t
-  overflow : plan.overflow ≡ passed_of v t
+  amount : plan.amount ≡ claimed_amount v t
+  flows : plan.flows ≡ claimed_flows v scheme t
+  prices : plan.prices ≡ claimed_prices v t
+  ray : plan.ray ≡ claimed_ray v scheme t
+  arc : plan.arc ≡ claimed_arc v t
+  overflow : plan.overflow ≡ claimed_overflow v t
   turned : plan.log.turned ≡ t.turned
   entries : plan.log.entries ≡ t.entries
 
@@ -165,8 +165,8 @@ module _ (scheme : Scheme) (t : Claims) (plan : Plan) (log : Bool) (new : IsNew 
   overflow-told : OverflowFits plan → HasFractions (told_as verdict.Overflow plan log) → IsTold verdict.Overflow scheme t plan log
   overflow-told fit has =
       let o = outline_of scheme in
-      let d = record t { passed = plan.overflow } in
-      let claim = runs-passed o t plan.overflow fit.place has.operands new.passed in
+      let d = record t { overflow = plan.overflow } in
+      let claim = runs-overflow o t plan.overflow fit.place has.operands new.overflow in
       record {
         claims = record d { turned = (told_log plan.log log).turned; entries = (told_log plan.log log).entries };
         run = runs-append o _ _ t d _ (runs-append o _ [] t d d claim refl) (runs-told o d plan.log log fit.log new.turned new.entries);

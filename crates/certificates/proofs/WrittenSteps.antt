@@ -43,11 +43,11 @@ runs-arc o t (Some arc) fit free =
     let back = whole-back arc fit in
     (record { goes = refl; right = rw (back, free) refl }, rw back refl)
 
-pub runs-passed : (o : Outline) (t : Claims) (passed : Option Overflow) → IfSome passed HasPlace → IfSome passed (λ p. Fits p.past.left × Fits p.past.right) → t.passed ≡ None
-    → Runs o t (option_to_list (option_map past_row passed)) (record t { passed = passed })
-runs-passed o t None place operands free = rw (sym free) refl
-runs-passed o t (Some passed) place operands free =
-    let back = overflow-back passed place operands in
+pub runs-overflow : (o : Outline) (t : Claims) (overflow : Option Overflow) → IfSome overflow HasPlace → IfSome overflow (λ p. Fits p.past.left × Fits p.past.right) → t.overflow ≡ None
+    → Runs o t (option_to_list (option_map past_row overflow)) (record t { overflow = overflow })
+runs-overflow o t None place operands free = rw (sym free) refl
+runs-overflow o t (Some overflow) place operands free =
+    let back = overflow-back overflow place operands in
     (record { goes = refl; right = rw (back, free) refl }, rw back refl)
 
 -- ---- the log

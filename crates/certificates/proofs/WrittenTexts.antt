@@ -15,7 +15,7 @@ use Rattle.net_csv.specs.declared.refused.Tail.TheVariants as tail
 use Rattle.net_csv.specs.Grammar.{read_records, IsSchemeOf}
 use Rattle.net_csv.specs.Writing.{rows_of}
 use Rattle.certificates.specs.Claims.{Outline, Claims}
-use Rattle.certificates.specs.Reading.{with_record}
+use Rattle.certificates.specs.Steps.Claims.{with_record}
 use Rattle.certificates.specs.Words.{verdict_word}
 use Rattle.certificates.specs.Writing.{inner_rows, plan_rows, printed_parts, told, HasFractions}
 use Rattle.certificates.specs.ReadBack.{IsReadAs, IsReadBehind}

@@ -141,9 +141,9 @@ place-back row.A8 place.Turn h = absurd h
 
 -- ---- records
 
-pub overflow-back : (passed : Overflow) → PlaceFits passed.row passed.place → Fits passed.past.left × Fits passed.past.right → overflow_in (past_row passed) ≡ Some passed
-overflow-back passed place operands =
-    rw (row-back passed.row, place-back passed.row passed.place place, op-back passed.past.op, fraction-back passed.past.left operands.0, fraction-back passed.past.right operands.1) refl
+pub overflow-back : (overflow : Overflow) → PlaceFits overflow.row overflow.place → Fits overflow.past.left × Fits overflow.past.right → overflow_in (past_row overflow) ≡ Some overflow
+overflow-back overflow place operands =
+    rw (row-back overflow.row, place-back overflow.row overflow.place place, op-back overflow.past.op, fraction-back overflow.past.left operands.0, fraction-back overflow.past.right operands.1) refl
 
 pub entry-back : (k : ℕ) (entry : Entry) → fits.IsNumber entry.enter × fits.IsNumber entry.leave → entry.leave_at ≢ mark.Basic → entry_in (pivot_row (k, entry)) ≡ Some entry
 entry-back k entry numbers at_bound = rw (whole-back entry.enter numbers.0, whole-back entry.leave numbers.1, mark-back entry.leave_at at_bound) refl

@@ -67,7 +67,7 @@ pub record Claims : Type 0 where
   pub cost : Option Ratio
   pub gap : Option Ratio
   pub arc : Option ℕ
-  pub passed : Option Overflow
+  pub overflow : Option Overflow
   pub flows : List (Option Ratio)
   pub prices : List (Option Ratio)
   pub ray : List (Option Ratio)
@@ -79,7 +79,7 @@ claims_of o rows = record {
   cost = found (of_kind (codes "cost") (λ r. fraction_in (field_of r 1))) rows;
   gap = found (of_kind (codes "gap") (λ r. fraction_in (field_of r 1))) rows;
   arc = found (of_kind (codes "arc") (λ r. whole_in (field_of r 1))) rows;
-  passed = found (of_kind (codes "past") overflow_in) rows;
+  overflow = found (of_kind (codes "past") overflow_in) rows;
   flows = amounts_given (codes "flow") o.flows o.periods rows;
   prices = amounts_given (codes "price") o.nodes o.periods rows;
   ray = amounts_given (codes "ray") o.flows o.periods rows;

@@ -70,7 +70,7 @@ record_fault o claims r =
     if is_kind r (codes "cost") then once_fault 2 (fraction_in (field_of r 1)) claims.cost r
     else if is_kind r (codes "gap") then once_fault 2 (fraction_in (field_of r 1)) claims.gap r
     else if is_kind r (codes "arc") then once_fault 2 (whole_in (field_of r 1)) claims.arc r
-    else if is_kind r (codes "past") then once_fault 6 (overflow_in r) claims.passed r
+    else if is_kind r (codes "past") then once_fault 6 (overflow_in r) claims.overflow r
     else if is_kind r (codes "flow") then amount_fault o.flows (last_for o r) claims.flows r
     else if is_kind r (codes "price") then amount_fault o.nodes o.periods claims.prices r
     else if is_kind r (codes "ray") then amount_fault o.flows (last_for o r) claims.ray r
@@ -84,7 +84,7 @@ is_complete Optimal claims = is_some claims.cost
 is_complete Infeasible claims = is_some claims.gap
 is_complete Unbounded claims = true
 is_complete Budget claims = is_some claims.arc
-is_complete Overflow claims = is_some claims.passed
+is_complete Overflow claims = is_some claims.overflow
 
 -- `end`
 abbrev pub end_fault : Verdict → Claims → List (List ℕ) → Option PlanCode

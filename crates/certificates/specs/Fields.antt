@@ -76,7 +76,7 @@ past_in r =
     option_and_then (λ op. option_and_then (λ left. option_map (λ right. record { op = op; left = left; right = right })
     (fraction_in (field_of r 5))) (fraction_in (field_of r 4))) (op_of (field_of r 3))
 
--- the operation that passed, with its row and its place
+-- the operation that overflowed, with its row and its place
 abbrev pub overflow_in : List (List ℕ) → Option Overflow
 overflow_in r =
     option_and_then (λ row. option_and_then (λ place. option_map (λ past. record { row = row; place = place; past = past })

@@ -79,56 +79,56 @@ abbrev pub node_amounts : List (Option Ratio) → List Ratio
 node_amounts given = map (λ amount. unwrap_or amount zero_ratio) given
 
 -- the parts that a verdict uses
-abbrev pub amount_of : Verdict → Claims → Option Ratio
-amount_of verdict.Optimal claims = claims.cost
-amount_of verdict.Infeasible claims = claims.gap
-amount_of verdict.Unbounded claims = None
-amount_of verdict.Budget claims = None
-amount_of verdict.Overflow claims = None
+abbrev pub claimed_amount : Verdict → Claims → Option Ratio
+claimed_amount verdict.Optimal claims = claims.cost
+claimed_amount verdict.Infeasible claims = claims.gap
+claimed_amount verdict.Unbounded claims = None
+claimed_amount verdict.Budget claims = None
+claimed_amount verdict.Overflow claims = None
 
-abbrev pub flows_of : Verdict → Scheme → Claims → List Ratio
-flows_of verdict.Optimal scheme claims = staged_amounts scheme claims.flows
-flows_of verdict.Infeasible scheme claims = []
-flows_of verdict.Unbounded scheme claims = staged_amounts scheme claims.flows
-flows_of verdict.Budget scheme claims = []
-flows_of verdict.Overflow scheme claims = []
+abbrev pub claimed_flows : Verdict → Scheme → Claims → List Ratio
+claimed_flows verdict.Optimal scheme claims = staged_amounts scheme claims.flows
+claimed_flows verdict.Infeasible scheme claims = []
+claimed_flows verdict.Unbounded scheme claims = staged_amounts scheme claims.flows
+claimed_flows verdict.Budget scheme claims = []
+claimed_flows verdict.Overflow scheme claims = []
 
-abbrev pub prices_of : Verdict → Claims → List Ratio
-prices_of verdict.Optimal claims = node_amounts claims.prices
-prices_of verdict.Infeasible claims = node_amounts claims.prices
-prices_of verdict.Unbounded claims = []
-prices_of verdict.Budget claims = []
-prices_of verdict.Overflow claims = []
+abbrev pub claimed_prices : Verdict → Claims → List Ratio
+claimed_prices verdict.Optimal claims = node_amounts claims.prices
+claimed_prices verdict.Infeasible claims = node_amounts claims.prices
+claimed_prices verdict.Unbounded claims = []
+claimed_prices verdict.Budget claims = []
+claimed_prices verdict.Overflow claims = []
 
-abbrev pub ray_of : Verdict → Scheme → Claims → List Ratio
-ray_of verdict.Optimal scheme claims = []
-ray_of verdict.Infeasible scheme claims = []
-ray_of verdict.Unbounded scheme claims = staged_amounts scheme claims.ray
-ray_of verdict.Budget scheme claims = []
-ray_of verdict.Overflow scheme claims = []
+abbrev pub claimed_ray : Verdict → Scheme → Claims → List Ratio
+claimed_ray verdict.Optimal scheme claims = []
+claimed_ray verdict.Infeasible scheme claims = []
+claimed_ray verdict.Unbounded scheme claims = staged_amounts scheme claims.ray
+claimed_ray verdict.Budget scheme claims = []
+claimed_ray verdict.Overflow scheme claims = []
 
-abbrev pub arc_of : Verdict → Claims → Option ℕ
-arc_of verdict.Optimal claims = None
-arc_of verdict.Infeasible claims = None
-arc_of verdict.Unbounded claims = None
-arc_of verdict.Budget claims = claims.arc
-arc_of verdict.Overflow claims = None
+abbrev pub claimed_arc : Verdict → Claims → Option ℕ
+claimed_arc verdict.Optimal claims = None
+claimed_arc verdict.Infeasible claims = None
+claimed_arc verdict.Unbounded claims = None
+claimed_arc verdict.Budget claims = claims.arc
+claimed_arc verdict.Overflow claims = None
 
-abbrev pub passed_of : Verdict → Claims → Option Overflow
-passed_of verdict.Optimal claims = None
-passed_of verdict.Infeasible claims = None
-passed_of verdict.Unbounded claims = None
-passed_of verdict.Budget claims = None
-passed_of verdict.Overflow claims = claims.passed
+abbrev pub claimed_overflow : Verdict → Claims → Option Overflow
+claimed_overflow verdict.Optimal claims = None
+claimed_overflow verdict.Infeasible claims = None
+claimed_overflow verdict.Unbounded claims = None
+claimed_overflow verdict.Budget claims = None
+claimed_overflow verdict.Overflow claims = claims.overflow
 
 -- the plan with these claims: of the other parts it has nothing
 pub record IsMadeOf (scheme : Scheme) (claims : Claims) (plan : Plan) : Type 0 where
-  pub amount : plan.amount ≡ amount_of plan.verdict claims
-  pub flows : plan.flows ≡ flows_of plan.verdict scheme claims
-  pub prices : plan.prices ≡ prices_of plan.verdict claims
-  pub ray : plan.ray ≡ ray_of plan.verdict scheme claims
-  pub arc : plan.arc ≡ arc_of plan.verdict claims
-  pub overflow : plan.overflow ≡ passed_of plan.verdict claims
+  pub amount : plan.amount ≡ claimed_amount plan.verdict claims
+  pub flows : plan.flows ≡ claimed_flows plan.verdict scheme claims
+  pub prices : plan.prices ≡ claimed_prices plan.verdict claims
+  pub ray : plan.ray ≡ claimed_ray plan.verdict scheme claims
+  pub arc : plan.arc ≡ claimed_arc plan.verdict claims
+  pub overflow : plan.overflow ≡ claimed_overflow plan.verdict claims
   pub turned : plan.log.turned ≡ claims.turned
   pub entries : plan.log.entries ≡ claims.entries
 

@@ -6,3 +6,4 @@ pub mod Grammar
 pub mod Reading
 pub mod Writing
 pub mod ReadBack
+pub mod Steps

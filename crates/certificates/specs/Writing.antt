@@ -22,7 +22,7 @@ use Rattle.certificates.specs.Claims.{flow_names}
 
 -- ---- records
 
--- where an operation passed: at a node, at an arc, at the turn to the second stage, or at a row of the checker
+-- where an operation overflowed: at a node, at an arc, at the turn to the second stage, or at a row of the checker
 abbrev pub place_word : Place → List ℕ
 place_word (place.Node v) = decimal v
 place_word (place.Arc a) = decimal a
@@ -41,8 +41,8 @@ abbrev pub number_row : List ℕ → ℕ → List (List ℕ)
 number_row word number = word ∷ decimal number ∷ []
 
 abbrev pub past_row : Overflow → List (List ℕ)
-past_row passed =
-    codes "past" ∷ row_word passed.row ∷ place_word passed.place ∷ op_word passed.past.op ∷ printed passed.past.left ∷ printed passed.past.right ∷ []
+past_row overflow =
+    codes "past" ∷ row_word overflow.row ∷ place_word overflow.place ∷ op_word overflow.past.op ∷ printed overflow.past.left ∷ printed overflow.past.right ∷ []
 
 -- the amount of a staged arc
 abbrev pub staged_row : List ℕ → List (List ℕ) → Stage × Ratio → List (List ℕ)
@@ -71,7 +71,7 @@ log_rows log =
 
 -- ---- the parts that a verdict prints, in this order
 
--- its cost, its gap, the arc or the operation that passed
+-- its cost, its gap, the arc or the operation that overflowed
 abbrev pub claim_rows : Verdict → Plan → List (List (List ℕ))
 claim_rows verdict.Optimal plan = option_to_list (option_map (amount_row (codes "cost")) plan.amount)
 claim_rows verdict.Infeasible plan = option_to_list (option_map (amount_row (codes "gap")) plan.amount)
@@ -118,4 +118,4 @@ pub record HasFractions (plan : Plan) : Type 0 where
   pub flows : All Fits plan.flows
   pub prices : All Fits plan.prices
   pub ray : All Fits plan.ray
-  pub operands : IfSome plan.overflow (λ passed. Fits passed.past.left × Fits passed.past.right)
+  pub operands : IfSome plan.overflow (λ overflow. Fits overflow.past.left × Fits overflow.past.right)

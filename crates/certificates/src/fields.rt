@@ -124,7 +124,7 @@ fn past(row: &ByteRecord) -> Option<Past>
     Some(Past { op, left, right })
 }
 
-/// The operation that passed, with its row and its place.
+/// The operation that overflowed, with its row and its place.
 pub(crate) fn overflow(row: &ByteRecord) -> Option<Overflow>
     ensures { result ≡ overflow_in (fields_of row.now) }
 {

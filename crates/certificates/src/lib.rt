@@ -1,10 +1,12 @@
 //! Plan texts: the plan of one or its first fault, and the text of a plan.
 #![tactic(auto)]
 
-mod draft;
+mod amounts;
+mod claims;
 mod fields;
 mod index;
 pub mod laws;
+mod plan;
 mod reading;
 mod refused;
 mod words;

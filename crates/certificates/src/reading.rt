@@ -8,9 +8,11 @@ ghost use Rattle.np_records.specs.Faults.{Reads, unless};
 ghost use Rattle.certificates.specs.Claims.{outline_of};
 ghost use Rattle.certificates.specs.Faults.{end_fault};
 ghost use Rattle.certificates.specs.Grammar.{is_header, verdict_in};
-ghost use Rattle.certificates.specs.Reading.{IsHeadRead, IsTextRead, IsWholeRead, IsOutline, HasPlaces, TakesRow, RefusesAt, RefusesHead, ReadsPlan};
+ghost use Rattle.certificates.specs.Steps.Texts.{IsHeadRead, IsTextRead, IsWholeRead, IsRowTaken, RefusesAt, RefusesHead};
+ghost use Rattle.certificates.specs.Steps.Claims.{IsOutline, HasAmountPlaces};
+ghost use Rattle.certificates.specs.Reading.{ReadsPlan};
 
-use crate::draft::Draft;
+use crate::claims::Draft;
 use crate::fields::{fields, is_kind};
 use crate::index::Index;
 use crate::refused::{PlanCode, PlanRefused, Stop};
@@ -91,7 +93,7 @@ fn take_end(draft: &Draft, verdict: Verdict, row: &ByteRecord) -> Result<(), Pla
     Err(PlanCode::Missing)
 }
 
-// Takes the record with this number, and tells whether it was `end`.
+// ClaimsBecome the record with this number, and tells whether it was `end`.
 fn take(
     draft: &mut Draft,
     index: &Index,
@@ -100,8 +102,8 @@ fn take(
     place: u32,
 ) -> Result<bool, PlanRefused>
     requires outline { IsOutline index.now }
-    requires places { HasPlaces index.now draft.old }
-    ensures { TakesRow result index.now verdict draft.old draft.new (fields_of row.now) place }
+    requires places { HasAmountPlaces index.now draft.old }
+    ensures { IsRowTaken result index.now verdict draft.old draft.new (fields_of row.now) place }
 {
     if is_kind(row, b"end") {
         return match take_end(draft, verdict, row) {

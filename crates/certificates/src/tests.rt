@@ -244,8 +244,8 @@ fn other_verdicts(rt: HostRuntime) -> Result<(), Fail> {
     Ok(())
 }
 
-// The row, the place and the operation that passed.
-fn passed(alloc: Global, record: &str) -> Result<Option<Overflow>, Fail> {
+// The row, the place and the operation that overflowed.
+fn overflow(alloc: Global, record: &str) -> Result<Option<Overflow>, Fail> {
     let mut text = String::new(alloc);
     text.push_str("netplan-plan,1|verdict,overflow|")?;
     text.push_str(record)?;
@@ -253,7 +253,7 @@ fn passed(alloc: Global, record: &str) -> Result<Option<Overflow>, Fail> {
     Ok(whole(alloc, text.as_str())?.overflow)
 }
 
-// The difference of 1/2 and -3 passed there.
+// The difference of 1/2 and -3 overflowed there.
 fn minus_at(row: Row, place: Place) -> Result<Overflow, Fail> {
     let left = read_frac(b"1/2").ok_or("no fraction")?;
     let right = read_frac(b"-3").ok_or("no fraction")?;
@@ -268,13 +268,13 @@ fn minus_at(row: Row, place: Place) -> Result<Overflow, Fail> {
 #[test]
 fn overflows(rt: HostRuntime) -> Result<(), Fail> {
     let alloc = rt.alloc();
-    let got = passed(alloc, "past,A8,C0,minus,1/2,-3")?;
+    let got = overflow(alloc, "past,A8,C0,minus,1/2,-3")?;
     assert!(rt; got == Some(minus_at(Row::A8, Place::Check(CheckRow::C0))?));
-    let got = passed(alloc, "past,A1,007,minus,2/4,-3")?;
+    let got = overflow(alloc, "past,A1,007,minus,2/4,-3")?;
     assert!(rt; got == Some(minus_at(Row::A1, Place::Node(7))?));
-    let got = passed(alloc, "past,A7,turn,minus,1/2,-6/2")?;
+    let got = overflow(alloc, "past,A7,turn,minus,1/2,-6/2")?;
     assert!(rt; got == Some(minus_at(Row::A7, Place::Turn)?));
-    let got = passed(alloc, "past,A5,999999999,minus,1/2,-3")?;
+    let got = overflow(alloc, "past,A5,999999999,minus,1/2,-3")?;
     assert!(rt; got == Some(minus_at(Row::A5, Place::Arc(999_999_999))?));
     Ok(())
 }

@@ -106,7 +106,7 @@ fn push_number(text: &mut Text, word: &[u8], number: Option<u32>) -> Result<(), 
     }
 }
 
-// Writes the record of an operation that passed, with its row and its place.
+// Writes the record of an operation that overflowed, with its row and its place.
 fn push_past<'a>(
     text: &mut Text,
     row: &'a [u8],
@@ -121,39 +121,39 @@ fn push_past<'a>(
 }
 
 // Writes the record of an overflow.
-fn push_overflow(alloc: Global, text: &mut Text, passed: &Overflow) -> Result<(), Memory>
-    ensures text { OnOk result (text.new.bytes ≡ text.old.bytes ++ record_text (past_row passed.now)) }
-    ensures fits { OnOk result (Fits passed.now.past.left × Fits passed.now.past.right) }
+fn push_overflow(alloc: Global, text: &mut Text, overflow: &Overflow) -> Result<(), Memory>
+    ensures text { OnOk result (text.new.bytes ≡ text.old.bytes ++ record_text (past_row overflow.now)) }
+    ensures fits { OnOk result (Fits overflow.now.past.left × Fits overflow.now.past.right) }
 {
-    let place = place_bytes(alloc, passed.place)?;
-    let left = fraction_bytes(alloc, passed.past.left)?;
-    let right = fraction_bytes(alloc, passed.past.right)?;
+    let place = place_bytes(alloc, overflow.place)?;
+    let left = fraction_bytes(alloc, overflow.past.left)?;
+    let right = fraction_bytes(alloc, overflow.past.right)?;
     push_past(
         text,
-        row_word(passed.row),
+        row_word(overflow.row),
         place.as_slice(),
-        op_word(passed.past.op),
+        op_word(overflow.past.op),
         left.as_slice(),
         right.as_slice(),
     )
 }
 
 // Writes the record of an overflow, where there is one.
-fn push_passed(alloc: Global, text: &mut Text, passed: &Option<Overflow>) -> Result<(), Memory>
-    ensures text { OnOk result (text.new.bytes ≡ text.old.bytes ++ records_text (option_to_list (option_map past_row passed.now))) }
-    ensures fits { OnOk result (IfSome passed.now (λ passed. Fits passed.past.left × Fits passed.past.right)) }
+fn push_passed(alloc: Global, text: &mut Text, overflow: &Option<Overflow>) -> Result<(), Memory>
+    ensures text { OnOk result (text.new.bytes ≡ text.old.bytes ++ records_text (option_to_list (option_map past_row overflow.now))) }
+    ensures fits { OnOk result (IfSome overflow.now (λ overflow. Fits overflow.past.left × Fits overflow.past.right)) }
 {
-    match passed {
-        Some(passed) => push_overflow(alloc, text, passed),
+    match overflow {
+        Some(overflow) => push_overflow(alloc, text, overflow),
         None => Ok(()),
     }
 }
 
-// Writes what a verdict claims: its cost, its gap, the arc or the operation that passed.
+// Writes what a verdict claims: its cost, its gap, the arc or the operation that overflowed.
 fn push_claim(alloc: Global, text: &mut Text, verdict: Verdict, plan: &Plan) -> Result<(), Memory>
     ensures text { OnOk result (text.new.bytes ≡ text.old.bytes ++ records_text (claim_rows verdict plan.now)) }
     ensures amount { OnOk result (IfSome (printed_parts verdict plan.now).amount Fits) }
-    ensures operands { OnOk result (IfSome (printed_parts verdict plan.now).overflow (λ passed. Fits passed.past.left × Fits passed.past.right)) }
+    ensures operands { OnOk result (IfSome (printed_parts verdict plan.now).overflow (λ overflow. Fits overflow.past.left × Fits overflow.past.right)) }
 {
     match verdict {
         Verdict::Optimal => push_amount(alloc, text, b"cost", plan.amount),
@@ -372,7 +372,7 @@ fn push_log(text: &mut Text, log: &Log, asked: bool) -> Result<(), Memory>
 
 /// The text of a plan: of its parts those that its verdict prints, and with `log` its pivots.
 ///
-/// Behind the verdict come its cost, its gap, the arc at which the budget ended or the operation that passed; then a
+/// Behind the verdict come its cost, its gap, the arc at which the budget ended or the operation that overflowed; then a
 /// flow for each staged arc, a price for each node in each period, and a ray for each staged arc, also where they are 0;
 /// and then what the log tells. Read again, behind the text of the scheme or any other records, it gives these parts.
 ///

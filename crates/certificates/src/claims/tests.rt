@@ -19,7 +19,7 @@ fn with_pivots(alloc: Global, count: usize) -> Result<Draft, Memory>
         cost: None,
         gap: None,
         arc: None,
-        passed: None,
+        overflow: None,
         flows: Vec::new(alloc),
         prices: Vec::new(alloc),
         ray: Vec::new(alloc),
