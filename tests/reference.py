@@ -1,7 +1,7 @@
 """What `netplan` answers to `check` and `expand`, written a second time from docs/FORMATS.md in plain Python, for tests/differential.
 
-It knows nothing of the program: it reads records as lists of strings, and computes with Python's fractions. It does not know when a sum
-passes 128 bits, so numbers are to be small.
+It knows nothing of the program: it reads records as lists of strings, and computes with Python's fractions. It does not know when a
+result no longer fits 128 bits, so numbers are to be small.
 """
 import csv
 import io

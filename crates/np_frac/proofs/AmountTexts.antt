@@ -10,7 +10,7 @@ use Rattle.std.proofs.lemmas.Nat.Gcd.{dvd_of_mod-eq-zero}
 use Rattle.std.proofs.lemmas.Fmt.{decimal_is_IsNumeral_wide, length-decimal-le_wide}
 use borrow.Author.Differences.{neg_is}
 use Rattle.np_frac.specs.Ratio.{Ratio}
-use Rattle.np_frac.specs.Signs.{from_cross}
+use Rattle.np_frac.specs.Steps.Signs.{from_cross}
 use Rattle.np_frac.specs.Text.{point, stroke, is_mark, unsigned_part, signed, IsNumber, number}
 use Rattle.np_frac.specs.Amount.{IsAmountEnd, amount_upper, amount_lower, HasAmountText, is_short, is_decimal, is_amount}
 use Rattle.np_frac.proofs.Exactness.{left_true, right_true}

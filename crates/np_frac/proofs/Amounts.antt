@@ -8,8 +8,8 @@ use Rattle.std.proofs.Math.Nat.{le_refl, dvd-mul_left, dvd-mul_right, mul-le-mul
 use Rattle.std.proofs.lemmas.Nat.{pow-add}
 use Rattle.std.proofs.lemmas.Nat.Gcd.{dvd_trans, IsGcd-swap, mod-eq-zero_of_dvd}
 use Rattle.np_frac.specs.Ratio.{Ratio, whole, over_some}
-use Rattle.np_frac.specs.Coprime.{dvd_of_coprime, lowest_is_least}
-use Rattle.np_frac.specs.Signs.{abs-cross, unsigned_abs-neg}
+use Rattle.np_frac.specs.Steps.Coprime.{dvd_of_coprime, lowest_is_least}
+use Rattle.np_frac.specs.Steps.Signs.{abs-cross, unsigned_abs-neg}
 use Rattle.np_frac.specs.Text.{point, signed, unsigned_part, before_mark, from_mark, IsNumber, number}
 use Rattle.np_frac.specs.Amount.{IsAmount, IsAmountEnd, amount_of, amount_upper, amount_lower, is_short, is_decimal, is_amount}
 use Rattle.np_frac.proofs.Texts.{number_below}

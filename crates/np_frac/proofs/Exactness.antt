@@ -1,13 +1,14 @@
 -- What the code finds is the exact answer.
-use Rattle.std.proofs.Common.{◌≡◌, ℕ, ◌/◌, ◌<◌, ◌^◌, ◌&&◌, Bool, true, false, Option, Some, None, Ok, Err, refl, sym, ap, ◌∙◌, ltb-true, lt-ltb, if◌then◌else◌, ℤ, pos, ◌*ℤ◌, ◌+ℤ◌, unsigned_abs, subst}
+use Rattle.std.proofs.Common.{◌≡◌, ℕ, ◌/◌, ◌<◌, ◌^◌, ◌&&◌, Bool, true, false, Option, Some, None, Result, Ok, Err, refl, sym, ap, ◌∙◌, ltb-true, lt-ltb, if◌then◌else◌, ℤ, pos, ◌*ℤ◌, ◌+ℤ◌, unsigned_abs, subst}
 use Rattle.std.specs.Option.{ok_or}
 use Rattle.std.specs.Cmp.Derive.{both_true}
 use Rattle.std.proofs.Math.Nat.{mul-div_cancel_left}
 use Rattle.np_frac.specs.Ratio.{Ratio, negated, inverse, ◌+ᵣ◌, ◌-ᵣ◌, ◌*ᵣ◌}
-use Rattle.np_frac.specs.Coprime.{scales}
+use Rattle.np_frac.specs.Steps.Coprime.{scales}
 use Rattle.np_frac.specs.Lcm.{lcm}
-use Rattle.np_frac.specs.Lowest.{Fits, HasSum, IsFound, IsSumFound}
-use Rattle.np_frac.specs.Exact.{is_part, fits, fits_sum, plus_of, minus_of, times_of, over_of}
+use Rattle.np_frac.specs.Fits.{Fits, is_part, fits}
+use Rattle.np_frac.specs.Steps.Found.{HasSum, IsFound, IsSumFound}
+use Rattle.np_frac.specs.Exact.{◌▷◌, fits_sum, plus_of, minus_of, times_of, over_of}
 use Rattle.np_frac.proofs.SumParts.{common_symm, sum-common, sum-left, sum-right, HasSum-parts}
 use Rattle.np_frac.specs.declared.frac.Past.{Past}
 use Rattle.np_frac.specs.declared.frac.Op.TheVariants.{Plus, Minus, Times, Over}
@@ -145,3 +146,10 @@ times_exact a b r h = sym (chosen (fits (a *ᵣ b)) (a *ᵣ b) r _ h)
 pub over_exact : (a b r : Ratio) → over_of a b ≡ Ok r → r ≡ a *ᵣ inverse b
 unfolding over_of
 over_exact a b r h = sym (chosen (fits (a *ᵣ inverse b)) (a *ᵣ inverse b) r _ h)
+
+-- ---- one operation after the other
+
+-- what was found in two steps
+pub found_by : {A B : Type 0} (r : Result A Past) (f : A → Result B Past) (y : B) → r ▷ f ≡ Ok y → (x : A) × (r ≡ Ok x) × (f x ≡ Ok y)
+found_by (Ok x) f y e = (x, refl, e)
+found_by (Err p) f y e = absurd (cc e)

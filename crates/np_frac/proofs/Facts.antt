@@ -2,7 +2,7 @@
 use Rattle.std.specs.Prelude.{◌≡◌, ◌≢◌, ℕ, ◌*◌, ◌<◌, Bool, true, false, pos, ◌+ℤ◌, ◌*ℤ◌, ◌≤ℤ◌, ◌<ℤ◌, ◌↔◌, IsTrue}
 use Rattle.std.proofs.Common.{refl, subst, ap, sym, ◌∙◌}
 use Rattle.np_frac.specs.Ratio.{Ratio, same_ratio, sum_is, sum_cross, product_is, product_cross, is_below, inverse, zero_ratio, ◌+ᵣ◌, ◌*ᵣ◌, ◌≤ᵣ◌, ◌<ᵣ◌}
-use Rattle.np_frac.specs.Coprime.{scales}
+use Rattle.np_frac.specs.Steps.Coprime.{scales}
 use Rattle.np_frac.specs.Lcm.{IsLcm, IsLcm-quotient, lcm}
 use Rattle.np_frac.proofs.Fractions.{gcd-some}
 use Rattle.np_frac.proofs.RatioLaws.{is_below_true, is_below_false, clash, *ᵣ_assoc, *ᵣ_comm}

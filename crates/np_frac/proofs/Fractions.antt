@@ -4,11 +4,12 @@ use Rattle.std.specs.Int.{IsGcd, w128, ◌∣◌}
 use Rattle.std.proofs.Math.Nat.{dvd-mul_left, mul-div_cancel', pos_of_dvd_of_pos, mul-pos, div-le_self, le-max_left}
 use Rattle.std.proofs.lemmas.Int.{unsigned_abs-mul, to_z_pos}
 use Rattle.std.proofs.lemmas.Nat.Gcd.{le_of_dvd, IsGcd-swap}
-use Rattle.np_frac.specs.Lowest.{Fit, Fits, IsReduced}
+use Rattle.np_frac.specs.Fits.{Fit, Fits}
+use Rattle.np_frac.specs.Steps.Found.{IsReduced}
 use Rattle.np_frac.specs.Ratio.{Ratio, IsLowest, made, over_is, over_some, product_is, same_ratio, ◌*ᵣ◌}
-use Rattle.np_frac.specs.Signs.{unsigned_abs-neg, cross_trans, cross-products, up-*, down-*, from_cross}
+use Rattle.np_frac.specs.Steps.Signs.{unsigned_abs-neg, cross_trans, cross-products, up-*, down-*, from_cross}
 use borrow.Author.Differences.{up, down, same_in}
-use Rattle.np_frac.specs.Coprime.{coprime-quotients, coprime-products, coprime-divisors}
+use Rattle.np_frac.specs.Steps.Coprime.{coprime-quotients, coprime-products, coprime-divisors}
 
 pub Fit-neg : {z : ℤ} {d : ℕ} → Fit z d → Fit (neg_ℤ z) d
 Fit-neg {z} {d} h = record { num_fits = rw (unsigned_abs-neg z) h.num_fits; den_fits = h.den_fits }

@@ -14,3 +14,5 @@ pub mod Twos
 pub mod Wholes
 pub mod AmountTexts
 pub mod SumLowest
+pub mod Fitting
+pub mod TextTests

@@ -9,7 +9,7 @@ use Rattle.std.proofs.lemmas.Str.Parse.{digit_from_value}
 use Rattle.std.proofs.Math.Seq.{take-append_seam, drop-append_seam}
 use Rattle.std.proofs.lemmas.Bool.Decides.{nat_tests}
 use Rattle.np_frac.specs.Ratio.{Ratio, over_some, over-numbers}
-use Rattle.np_frac.specs.Lowest.{Fits}
+use Rattle.np_frac.specs.Fits.{Fits}
 use Rattle.np_frac.specs.Text.{stroke, is_mark, printed, unsigned_part, signed, before_mark, from_mark, number, IsPart, IsFraction, IsFractionEnd, fraction_lower, fraction_of}
 
 -- ---- where digits end

@@ -3,8 +3,8 @@ use Rattle.std.proofs.Common.{◌≡◌, ℕ, ◌<◌, ◌*◌, ◌/◌, ◌^◌
 use Rattle.std.specs.Int.{IsGcd}
 use Rattle.std.proofs.Math.Nat.{mul-div_cancel'}
 use Rattle.np_frac.specs.Ratio.{Ratio}
-use Rattle.np_frac.specs.Signs.{cancel_scale, scale-one, scale-scale, +ℤ-*ℤ}
-use Rattle.np_frac.specs.Lowest.{HasSum}
+use Rattle.np_frac.specs.Steps.Signs.{cancel_scale, scale-one, scale-scale, +ℤ-*ℤ}
+use Rattle.np_frac.specs.Steps.Found.{HasSum}
 use Rattle.np_frac.specs.Lcm.{IsLcm, IsLcm-quotient, same_from_IsLcm}
 use Rattle.np_frac.proofs.Fractions.{gcd-some}
 

@@ -1,13 +1,14 @@
 -- Sums of ratios over a list.
-use Rattle.std.specs.Prelude.{◌≡◌, ℕ, ◌+◌, ◌<◌, ◌≤◌, length, List, [], ◌∷◌, map}
-use Rattle.std.specs.List.{All, AllByRecursion, fold, zip, enumerate_from}
+use Rattle.std.specs.Prelude.{◌≡◌, ℕ, zero, suc, ◌+◌, ◌<◌, ◌≤◌, length, List, [], ◌∷◌, ◌++◌, map, set, Bool, true, false, Some, slice_get, if◌then◌else◌}
+use Rattle.std.specs.List.{All, AllByRecursion, filter, fold, zip, enumerate_from}
 use Rattle.std.proofs.Common.{refl, arith, ap, ap₂, sym, subst, ◌∙◌, get_or, take}
 use Rattle.std.proofs.lemmas.List.{take_all}
-use Rattle.std.proofs.lemmas.List.Sums.{fold_more}
+use Rattle.std.proofs.lemmas.List.Sums.{fold_more, fold-append}
 use Rattle.std.proofs.lemmas.Slice.Zip.{length-zip, get_or-zip}
 use Rattle.std.proofs.lemmas.List.Elements.{recursion_from_All, All-from_recursion, All-more}
-use Rattle.np_frac.specs.Ratio.{Ratio, zero_ratio, ◌≤ᵣ◌, ◌+ᵣ◌, ◌-ᵣ◌, ◌*ᵣ◌, total}
-use Rattle.np_frac.proofs.RatioLaws.{+ᵣ_assoc, +ᵣ_middle, +ᵣ-zero, zero-+ᵣ, *ᵣ_comm, *ᵣ_assoc, *ᵣ-+ᵣ, +ᵣ-*ᵣ, *ᵣ-zero, zero-*ᵣ, split_by, ≤ᵣ_refl, +ᵣ_at_most}
+use Rattle.np_frac.specs.Ratio.{Ratio, zero_ratio, ◌≤ᵣ◌, ◌+ᵣ◌, ◌-ᵣ◌, ◌*ᵣ◌, total, product, one_ratio}
+use Rattle.np_frac.proofs.Field.{*ᵣ-one}
+use Rattle.np_frac.proofs.RatioLaws.{one-*ᵣ, +ᵣ_comm, +ᵣ_assoc, +ᵣ_middle, +ᵣ-zero, zero-+ᵣ, *ᵣ_comm, *ᵣ_assoc, *ᵣ-+ᵣ, +ᵣ-*ᵣ, *ᵣ-zero, zero-*ᵣ, split_by, ≤ᵣ_refl, +ᵣ_at_most}
 
 -- the same sum from the right, on which the laws go by recursion
 abbrev pub sum : {A : Type 0} → (A → Ratio) → List A → Ratio
@@ -95,6 +96,69 @@ priced {A} c q k p xs nodes =
     total_each xs (λ x. split_by (c x) (pull x) (q x))
     ∙ total-+ᵣ (λ x. (c x -ᵣ pull x) *ᵣ q x) (λ x. pull x *ᵣ q x) xs
     ∙ ap (λ s. total (λ x. (c x -ᵣ pull x) *ᵣ q x) xs +ᵣ s) (exchange q k p xs nodes)
+
+-- ---- joined lists, a part of a list, one place changed
+
+sum_joined : {A : Type 0} (f : A → Ratio) (xs ys : List A) → sum f (xs ++ ys) ≡ sum f xs +ᵣ sum f ys
+sum_joined f [] ys = sym (zero-+ᵣ (sum f ys))
+sum_joined f (x ∷ xs) ys = rw (sum_joined f xs ys) (sym (+ᵣ_assoc (f x) (sum f xs) (sum f ys)))
+
+pub total_joined : {A : Type 0} (f : A → Ratio) (xs ys : List A) → total f (xs ++ ys) ≡ total f xs +ᵣ total f ys
+total_joined f xs ys = rw (total_is f (xs ++ ys), total_is f xs, total_is f ys) (sum_joined f xs ys)
+
+kept_or : {A : Type 0} (f : A → Ratio) (keep : A → Bool) (x : A) (xs : List A) (t : Bool) → keep x ≡ t → (t ≡ false → f x ≡ zero_ratio) → sum f (filter keep xs) ≡ sum f xs → sum f (if t then x ∷ filter keep xs else filter keep xs) ≡ f x +ᵣ sum f xs
+kept_or f keep x xs true e h same = ap (λ s. f x +ᵣ s) same
+kept_or f keep x xs false e h same = rw (h refl, zero-+ᵣ (sum f xs)) same
+
+sum_part : {A : Type 0} (f : A → Ratio) (keep : A → Bool) (xs : List A) → AllByRecursion (λ x. keep x ≡ false → f x ≡ zero_ratio) xs → sum f (filter keep xs) ≡ sum f xs
+sum_part f keep [] h = refl
+sum_part f keep (x ∷ xs) h = kept_or f keep x xs (keep x) refl h.0 (sum_part f keep xs h.1)
+
+-- the terms that are left out are 0
+pub total_part : {A : Type 0} (f : A → Ratio) (keep : A → Bool) (xs : List A) → All (λ x. keep x ≡ false → f x ≡ zero_ratio) xs → total f (filter keep xs) ≡ total f xs
+total_part f keep xs h =
+    rw (total_is f (filter keep xs), total_is f xs) (sum_part f keep xs (recursion_from_All (λ x. keep x ≡ false → f x ≡ zero_ratio) xs h))
+
+swapped_in : (a b c : Ratio) → (a +ᵣ b) +ᵣ c ≡ (c +ᵣ b) +ᵣ a
+swapped_in a b c = +ᵣ_comm (a +ᵣ b) c ∙ ap (λ s. c +ᵣ s) (+ᵣ_comm a b) ∙ sym (+ᵣ_assoc c b a)
+
+sum_changed : {A : Type 0} (f : A → Ratio) (xs : List A) (i : ℕ) (y d : A) → i < length xs → sum f (set xs i y) +ᵣ f (get_or xs i d) ≡ sum f xs +ᵣ f y
+sum_changed f [] i y d h = absurd (omega arith)
+sum_changed f (x ∷ xs) zero y d h = swapped_in (f y) (sum f xs) (f x)
+sum_changed f (x ∷ xs) (suc i) y d h =
+    +ᵣ_assoc (f x) (sum f (set xs i y)) (f (get_or xs i d))
+    ∙ ap (λ s. f x +ᵣ s) (sum_changed f xs i y d (omega arith))
+    ∙ sym (+ᵣ_assoc (f x) (sum f xs) (f y))
+
+-- one place changed
+pub total_changed : {A : Type 0} (f : A → Ratio) (xs : List A) (i : ℕ) (y d : A) → i < length xs → total f (set xs i y) +ᵣ f (get_or xs i d) ≡ total f xs +ᵣ f y
+total_changed f xs i y d h = rw (total_is f (set xs i y), total_is f xs) (sum_changed f xs i y d h)
+
+there : {A : Type 0} (xs : List A) (i : ℕ) (x : A) → slice_get xs i ≡ Some x → (i < length xs) × (get_or xs i x ≡ x)
+there [] i x e = absurd (cc e)
+there (y ∷ ys) zero x e = let same : y ≡ x = cc e in (omega arith, same)
+there (y ∷ ys) (suc i) x e = let rest = there ys i x e in (omega (arith, rest.0), rest.1)
+
+pub total_changed_at : {A : Type 0} (f : A → Ratio) (xs : List A) (i : ℕ) (x y : A) → slice_get xs i ≡ Some x → total f (set xs i y) +ᵣ f x ≡ total f xs +ᵣ f y
+total_changed_at f xs i x y e =
+    let at_place = there xs i x e in
+    rw (at_place.1) at (total_changed f xs i y x at_place.0)
+
+-- ---- products
+
+fold_product : {A : Type 0} (f : A → Ratio) (a : Ratio) (xs : List A) → fold (λ r x. r *ᵣ f x) a xs ≡ a *ᵣ product f xs
+fold_product f a [] = sym (*ᵣ-one a)
+fold_product f a (x ∷ xs) =
+    fold_product f (a *ᵣ f x) xs
+    ∙ *ᵣ_assoc a (f x) (product f xs)
+    ∙ ap (λ r. a *ᵣ r) (sym (fold_product f (f x) xs) ∙ ap (λ r. fold (λ s y. s *ᵣ f y) r xs) (sym (one-*ᵣ (f x))))
+
+-- an element more at the front
+pub product_more : {A : Type 0} (f : A → Ratio) (x : A) (xs : List A) → product f (x ∷ xs) ≡ f x *ᵣ product f xs
+product_more f x xs = ap (λ r. fold (λ s y. s *ᵣ f y) r xs) (one-*ᵣ (f x)) ∙ fold_product f (f x) xs
+
+pub product_joined : {A : Type 0} (f : A → Ratio) (xs ys : List A) → product f (xs ++ ys) ≡ product f xs *ᵣ product f ys
+product_joined f xs ys = fold-append (λ r x. r *ᵣ f x) one_ratio xs ys ∙ fold_product f (product f xs) ys
 
 -- ---- sums along two lists
 

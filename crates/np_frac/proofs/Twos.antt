@@ -4,8 +4,8 @@ use Rattle.std.specs.Int.{IsGcd, bit_at, abs_diff, trailing_zeros, Width, w128}
 use Rattle.std.proofs.lemmas.Nat.Bits.{bit_at-trailing_zeros}
 use Rattle.std.proofs.Math.Nat.{pow-suc, pow-succ', mul_assoc, mul_comm, div-div-eq-div-mul}
 use Rattle.std.proofs.lemmas.Nat.Gcd.{le_of_dvd, same_from_IsGcd, IsGcd-swap, IsGcd-from_sub, IsGcd-from_mod, IsGcd-from_zero}
-use Rattle.np_frac.specs.Coprime.{scales, IsGcd-beside}
-use Rattle.np_frac.specs.Odd.{IsOddPart}
+use Rattle.np_frac.specs.Steps.Coprime.{scales, IsGcd-beside}
+use Rattle.np_frac.specs.Steps.Odd.{IsOddPart}
 
 -- a number whose k lowest bits are 0 is a multiple of 2 to the k
 pub multiple : (n k : ℕ) → ((i : ℕ) → i < k → bit_at n i ≡ 0) → n ≡ 2 ^ k * (n / 2 ^ k)

@@ -4,7 +4,8 @@ use Rattle.std.proofs.Common.{refl, sym, subst, ap, ◌∙◌, arith}
 use Rattle.std.specs.Int.{IsGcd}
 use Rattle.std.proofs.Math.Nat.{one-dvd}
 use Rattle.np_frac.specs.Ratio.{Ratio, whole, same_numbers, product_is, ◌*ᵣ◌}
-use Rattle.np_frac.specs.Lowest.{Fits, HasSum}
+use Rattle.np_frac.specs.Fits.{Fits}
+use Rattle.np_frac.specs.Steps.Found.{HasSum}
 use Rattle.np_frac.proofs.Field.{times_one}
 use Rattle.np_frac.proofs.SumParts.{HasSum-parts, sum-left, sum-right}
 

@@ -1,7 +1,7 @@
 -- The amounts of network texts.
-use Rattle.std.specs.Prelude.{◌≡◌, ℕ, ◌==◌, ◌%◌, ◌+◌, ◌*◌, ◌^◌, ◌<◌, nat_lt, ◌&&◌, ◌||◌, unsigned_abs, Bool, List, [], ◌∷◌, length, if◌then◌else◌, MatchBool}
+use Rattle.std.specs.Prelude.{◌≡◌, ℕ, ◌==◌, ◌%◌, ◌+◌, ◌*◌, ◌^◌, ◌<◌, nat_lt, ◌&&◌, ◌||◌, unsigned_abs, Bool, true, List, [], ◌∷◌, length, if◌then◌else◌, MatchBool}
 use Rattle.np_frac.specs.Ratio.{Ratio, over_some}
-use Rattle.np_frac.specs.Text.{point, unsigned_part, signed, before_mark, from_mark, IsNumber, number}
+use Rattle.np_frac.specs.Text.{point, unsigned_part, signed, before_mark, from_mark, IsNumber, is_number, number}
 
 -- what may stand behind the whole number of an amount: nothing, a point and 1 to 9 digits, or a stroke and 1 to 19
 -- digits that are not all zero
@@ -32,6 +32,16 @@ amount_of bs =
 -- some amount's text writes the ratio
 abbrev pub HasAmountText : Ratio → Type 0
 HasAmountText r = (bs : List ℕ) × (IsAmount bs × (r ≡ amount_of bs))
+
+-- ---- the test of these texts
+
+abbrev pub is_amount_end : List ℕ → Bool
+is_amount_end [] = true
+is_amount_end (mark ∷ ds) = if mark == point then is_number 9 ds else is_number 19 ds && nat_lt 0 (number ds)
+
+-- the test of `IsAmount`
+unfoldable pub is_amount_text : List ℕ → Bool
+is_amount_text bs = is_number 18 (before_mark (unsigned_part bs)) && is_amount_end (from_mark (unsigned_part bs))
 
 -- ---- which ratios are amounts
 

@@ -1,18 +1,11 @@
--- Exact operations: the ratio that is meant, or the operation that passes, with its operands.
--- An operation passes where its exact result does not fit a fraction, both of whose parts are at most 2 ^ 127 - 1 in size.
-use Rattle.std.specs.Prelude.{ℕ, ◌/◌, ◌^◌, nat_lt, ◌&&◌, Bool, pos, ◌*ℤ◌, ◌+ℤ◌, unsigned_abs, Result, Ok, Err, if◌then◌else◌}
+-- Exact operations: the ratio that is meant, or the operation that overflows, with its operands.
+-- An operation overflows where its exact result, or for sums a part of the way to it, does not fit a fraction.
+use Rattle.std.specs.Prelude.{◌/◌, ◌&&◌, Bool, pos, ◌*ℤ◌, ◌+ℤ◌, unsigned_abs, Result, Ok, Err, if◌then◌else◌}
 use Rattle.np_frac.specs.Ratio.{Ratio, negated, inverse, ◌+ᵣ◌, ◌-ᵣ◌, ◌*ᵣ◌}
 use Rattle.np_frac.specs.Lcm.{lcm}
+use Rattle.np_frac.specs.Fits.{is_part, fits}
 use Rattle.np_frac.specs.declared.frac.Past.{Past}
 use Rattle.np_frac.specs.declared.frac.Op.TheVariants.{Plus, Minus, Times, Over}
-
--- a part of a fraction has at most 127 bits
-abbrev pub is_part : ℕ → Bool
-is_part n = nat_lt n (2 ^ 127)
-
--- the ratio fits
-abbrev pub fits : Ratio → Bool
-fits r = is_part (unsigned_abs r.num) && is_part r.den
 
 -- the least common denominator, either numerator over it, and their sum fit
 abbrev pub fits_sum : Ratio → Ratio → Bool
@@ -34,3 +27,11 @@ times_of a b = if fits (a *ᵣ b) then Ok (a *ᵣ b) else Err (record { op = Tim
 -- the quotient by a ratio that is not 0
 unfoldable pub over_of : Ratio → Ratio → Result Ratio Past
 over_of a b = if fits (a *ᵣ inverse b) then Ok (a *ᵣ inverse b) else Err (record { op = Over; left = a; right = b })
+
+-- ---- one operation after the other
+
+-- go on with what was found, or stop at the first operation that overflows
+infixl 10 ◌▷◌
+abbrev pub ◌▷◌ : {A B : Type 0} → Result A Past → (A → Result B Past) → Result B Past
+(Ok x) ▷ f = f x
+(Err past) ▷ f = Err past

@@ -3,7 +3,7 @@ use Rattle.std.proofs.Common.{◌≡◌, ℕ, ◌*◌, ◌/◌, ap, ◌<◌, ari
 use Rattle.std.specs.Int.{IsGcd, ◌∣◌}
 use Rattle.std.proofs.Math.Nat.{dvd-mul_left, dvd-mul_right, dvd_of_mul-dvd-mul_left, mul-dvd-mul_left, mul-div_cancel'}
 use Rattle.std.proofs.lemmas.Nat.Gcd.{dvd_antisymm, IsGcd-swap}
-use Rattle.np_frac.specs.Coprime.{dvd_of_coprime, coprime-quotients, scales}
+use Rattle.np_frac.specs.Steps.Coprime.{dvd_of_coprime, coprime-quotients, scales}
 
 -- the least common multiple
 pub record IsLcm (b d l : ℕ) : Type 0 where

@@ -1,10 +1,9 @@
-pub mod Coprime
-pub mod Odd
-pub mod Signs
 pub mod Ratio
-pub mod Lcm
-pub mod Lowest
-pub mod Exact
 pub mod Order
+pub mod Lcm
+pub mod Fits
+pub mod Exact
 pub mod Text
 pub mod Amount
+pub mod Words
+pub mod Steps

@@ -9,7 +9,7 @@ use lib.Signed.{<ℤ_irrefl}
 use Rattle.std.proofs.Math.Nat.{mul-pos}
 use Rattle.std.proofs.lemmas.Int.{ints}
 use Rattle.np_frac.specs.Ratio.{Ratio, same_numbers, same_ratio}
-use Rattle.np_frac.specs.Signs.{cross-below}
+use Rattle.np_frac.specs.Steps.Signs.{cross-below}
 
 abbrev pub ratio_cmp : Ratio → Ratio → Ordering
 ratio_cmp a b = int_cmp (a.num *ℤ pos b.den) (b.num *ℤ pos a.den)

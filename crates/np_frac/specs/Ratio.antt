@@ -8,8 +8,8 @@ use Rattle.std.proofs.lemmas.Int.{unsigned_abs-mul}
 use Rattle.std.proofs.Common.{refl, arith, subst, sym, ap, ◌∙◌}
 use borrow.Author.Differences as integers
 use borrow.Author.Differences.{up, down, same_in}
-use Rattle.np_frac.specs.Coprime.{scales, coprime-quotients, lowest-lower}
-use Rattle.np_frac.specs.Signs.{quot-exact, cross_trans, unsigned_abs-neg, abs-cross, up-cross, down-cross, up-*, down-*, from_cross}
+use Rattle.np_frac.specs.Steps.Coprime.{scales, coprime-quotients, lowest-lower}
+use Rattle.np_frac.specs.Steps.Signs.{quot-exact, cross_trans, unsigned_abs-neg, abs-cross, up-cross, down-cross, up-*, down-*, from_cross}
 
 -- no common divisor above 1, and den above 0
 pub record IsLowest (num : ℤ) (den : ℕ) : Type 0 where
@@ -138,6 +138,10 @@ a -ᵣ b = a +ᵣ negated b
 -- the sum of what f makes of each element, from the left, and 0 for the empty list
 abbrev pub total : {A : Type 0} → (A → Ratio) → List A → Ratio
 total f xs = fold (λ sum x. sum +ᵣ f x) zero_ratio xs
+
+-- the product of what f makes of each element, from the left, and 1 for the empty list
+abbrev pub product : {A : Type 0} → (A → Ratio) → List A → Ratio
+product f xs = fold (λ r x. r *ᵣ f x) one_ratio xs
 
 -- the test of `<ᵣ`
 abbrev pub is_below : Ratio → Ratio → Bool

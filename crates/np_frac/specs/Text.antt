@@ -1,6 +1,7 @@
 -- The texts of ratios.
-use Rattle.std.specs.Prelude.{◌≡◌, ℕ, ◌==◌, ◌||◌, ◌^◌, ◌<◌, ◌≤◌, Bool, ℤ, pos, neg_ℤ, List, [], ◌∷◌, ◌++◌, length, drop, if◌then◌else◌}
-use Rattle.std.specs.List.{before_first, position_or_len}
+use Rattle.std.specs.Prelude.{◌≡◌, ℕ, ◌==◌, ◌&&◌, ◌||◌, ◌^◌, ◌<◌, ◌≤◌, nat_lt, nat_le, Bool, true, ℤ, pos, neg_ℤ, List, [], ◌∷◌, ◌++◌, length, drop, if◌then◌else◌}
+use Rattle.std.specs.List.{before_first, list_all, position_or_len}
+use Rattle.std.specs.Char.{is_ascii_digit}
 use Rattle.std.specs.Str.Parse.{IsNumeral, digits_value, starts_with_minus}
 use Rattle.std.specs.Fmt.{decimal, signed_decimal}
 use Rattle.np_frac.specs.Ratio.{Ratio, over_some}
@@ -43,6 +44,10 @@ pub record IsNumber (most : ℕ) (ds : List ℕ) : Type 0 where
   pub numeral : IsNumeral 10 ds
   pub short : length ds ≤ most
 
+-- its test
+abbrev pub is_number : ℕ → List ℕ → Bool
+is_number most ds = nat_lt 0 (length ds) && nat_le (length ds) most && list_all is_ascii_digit ds
+
 -- the number that they write
 abbrev pub number : List ℕ → ℕ
 number ds = digits_value 10 ds
@@ -73,3 +78,16 @@ abbrev pub fraction_of : List ℕ → Ratio
 fraction_of bs =
     let us = unsigned_part bs in
     over_some (signed bs (number (before_mark us))) (fraction_lower (from_mark us))
+
+-- ---- the tests of these texts
+
+abbrev pub is_part_text : List ℕ → Bool
+is_part_text ds = is_number 39 ds && nat_lt (number ds) (2 ^ 127)
+
+abbrev pub is_fraction_end : List ℕ → Bool
+is_fraction_end [] = true
+is_fraction_end (mark ∷ ds) = (mark == stroke) && is_part_text ds && nat_lt 0 (number ds)
+
+-- the test of `IsFraction`
+unfoldable pub is_fraction_text : List ℕ → Bool
+is_fraction_text bs = is_part_text (before_mark (unsigned_part bs)) && is_fraction_end (from_mark (unsigned_part bs))

@@ -2,7 +2,8 @@
 
 ghost use Rattle.std.specs.Prelude.{◌≡◌, ◌≢◌, ◌*◌, ◌*ℤ◌, ◌≤ℤ◌, ◌↔◌, ◌⊎◌, IsNone, IfSome, IsTrue, pos, neg_ℤ, ◌<◌, ◌^◌, unsigned_abs};
 ghost use Rattle.np_frac.specs.Ratio.{IsLowest, over_some, whole, negated, inverse, is_below, ◌+ᵣ◌, ◌*ᵣ◌};
-ghost use Rattle.np_frac.specs.Lowest.{Fit, Fits, IsFound, IsSumFound};
+ghost use Rattle.np_frac.specs.Fits.{Fit, Fits};
+ghost use Rattle.np_frac.specs.Steps.Found.{IsFound, IsSumFound};
 ghost use Rattle.np_frac.specs.Order.{ratio_cmp, ratio_eq};
 
 use crate::divisor::{gcd, reduced, reduced_by_shared};
@@ -21,7 +22,7 @@ pub struct Frac {
 
 impl Model for Frac {
     ghost use Rattle.np_frac.specs.Ratio.{Ratio, ratio_code};
-    ghost use Rattle.np_frac.specs.Lowest.{Fit};
+    ghost use Rattle.np_frac.specs.Fits.{Fit};
 
     ghost Value = { Ratio };
 
@@ -41,6 +42,23 @@ pub enum Op {
     Minus,
     Times,
     Over,
+}
+
+impl Op {
+    ghost use Rattle.np_frac.specs.Words.{op_word};
+
+    /// Its word, as it is printed.
+    #[tactic(auto, unfolding(crate::specs::Words::op_word))]
+    pub fn word(self) -> &'static [u8]
+        ensures { result.now ≡ op_word self }
+    {
+        match self {
+            Op::Plus => b"plus",
+            Op::Minus => b"minus",
+            Op::Times => b"times",
+            Op::Over => b"over",
+        }
+    }
 }
 
 /// An operation whose exact result does not fit, with its operands as they were given.
@@ -142,7 +160,7 @@ impl Frac {
         }
     }
 
-    /// The product, and `None` where it does not fit. Cancelled across first, since a product of parts may pass where
+    /// The product, and `None` where it does not fit. Cancelled across first, since a product of parts may overflow where
     /// its lowest terms do not.
     fn product_of(self, other: Frac) -> Option<Frac>
         ensures { IsFound result (self *ᵣ other) }

@@ -2,13 +2,13 @@
 //! what the texts write.
 //! Each function does nothing, and its clauses are the laws.
 
-ghost use Rattle.std.specs.Prelude.{◌≡◌, ◌≢◌, ℕ, ◌*◌, ◌<◌, ◌^◌, pos, ℤ, unsigned_abs, ◌+ℤ◌, ◌*ℤ◌, ◌≤ℤ◌, ◌<ℤ◌, ◌↔◌, ◌⊎◌, IsTrue, List, All, Ok};
-ghost use Rattle.np_frac.specs.Ratio.{Ratio, zero_ratio, one_ratio, whole, negated, inverse, is_below, total, ◌+ᵣ◌, ◌-ᵣ◌, ◌*ᵣ◌, ◌≤ᵣ◌, ◌<ᵣ◌};
+ghost use Rattle.std.specs.Prelude.{◌≡◌, ◌≢◌, ℕ, ◌*◌, ◌<◌, ◌^◌, pos, ℤ, unsigned_abs, ◌+ℤ◌, ◌*ℤ◌, ◌≤ℤ◌, ◌<ℤ◌, ◌↔◌, ◌⊎◌, Bool, false, IsTrue, List, ◌∷◌, ◌++◌, set, slice_get, filter, All, Some, Ok};
+ghost use Rattle.np_frac.specs.Ratio.{Ratio, zero_ratio, one_ratio, whole, negated, inverse, is_below, total, product, ◌+ᵣ◌, ◌-ᵣ◌, ◌*ᵣ◌, ◌≤ᵣ◌, ◌<ᵣ◌};
 ghost use Rattle.np_frac.specs.Lcm.{IsLcm, lcm};
-ghost use Rattle.np_frac.specs.Lowest.{Fits};
-ghost use Rattle.np_frac.specs.Text.{printed, IsFraction, fraction_of};
-ghost use Rattle.np_frac.specs.Amount.{IsAmount, amount_of, is_amount, HasAmountText};
-ghost use Rattle.np_frac.specs.Exact.{fits, plus_of, minus_of, times_of, over_of};
+ghost use Rattle.np_frac.specs.Fits.{Fits, fits};
+ghost use Rattle.np_frac.specs.Text.{printed, IsNumber, is_number, IsFraction, is_fraction_text, fraction_of};
+ghost use Rattle.np_frac.specs.Amount.{IsAmount, is_amount_text, amount_of, is_amount, HasAmountText};
+ghost use Rattle.np_frac.specs.Exact.{plus_of, minus_of, times_of, over_of};
 
 /// Two ratios are equal where their cross products are.
 pub fn equality()
@@ -71,6 +71,19 @@ pub fn sums_of_lists<A>()
     ensures factor { (f : A → Ratio) (c : Ratio) (xs : List A) → c *ᵣ total f xs ≡ total (λ x. c *ᵣ f x) xs }
     ensures same { (f g : A → Ratio) (xs : List A) → All (λ x. f x ≡ g x) xs → total f xs ≡ total g xs }
     ensures at_most { (f g : A → Ratio) (xs : List A) → All (λ x. f x ≤ᵣ g x) xs → total f xs ≤ᵣ total g xs }
+    ensures joined { (f : A → Ratio) (xs ys : List A) → total f (xs ++ ys) ≡ total f xs +ᵣ total f ys }
+
+    // Where the terms that are left out are 0, a part has the sum of the whole.
+    ensures part { (f : A → Ratio) (keep : A → Bool) (xs : List A) → All (λ x. keep x ≡ false → f x ≡ zero_ratio) xs → total f (filter keep xs) ≡ total f xs }
+
+    // One place changed takes its term out and puts the new one in.
+    ensures changed { (f : A → Ratio) (xs : List A) (i : ℕ) (x y : A) → slice_get xs i ≡ Some x → total f (set xs i y) +ᵣ f x ≡ total f xs +ᵣ f y }
+{}
+
+/// A product along a list is taken from either end, and that of joined lists is the product of theirs.
+pub fn products_of_lists<A>()
+    ensures more { (f : A → Ratio) (x : A) (xs : List A) → product f (x ∷ xs) ≡ f x *ᵣ product f xs }
+    ensures joined { (f : A → Ratio) (xs ys : List A) → product f (xs ++ ys) ≡ product f xs *ᵣ product f ys }
 {}
 
 /// A double sum may be taken in either order. So the potentials at the ends of all arcs, times the amounts of the
@@ -91,6 +104,10 @@ pub fn exact_answers()
     ensures minus { (a b r : Ratio) → minus_of a b ≡ Ok r → r ≡ a -ᵣ b }
     ensures times { (a b r : Ratio) → times_of a b ≡ Ok r → r ≡ a *ᵣ b }
     ensures over { (a b r : Ratio) → over_of a b ≡ Ok r → r ≡ a *ᵣ inverse b }
+    ensures plus_fits { (a b r : Ratio) → plus_of a b ≡ Ok r → Fits r }
+    ensures minus_fits { (a b r : Ratio) → minus_of a b ≡ Ok r → Fits r }
+    ensures times_fits { (a b r : Ratio) → times_of a b ≡ Ok r → Fits r }
+    ensures over_fits { (a b r : Ratio) → over_of a b ≡ Ok r → Fits r }
     ensures fits { (r : Ratio) → IsTrue (fits r) ↔ Fits r }
 {}
 
@@ -98,6 +115,13 @@ pub fn exact_answers()
 pub fn printed_forms()
     ensures fraction { (r : Ratio) → Fits r → IsFraction (printed r) }
     ensures value { (r : Ratio) → Fits r → fraction_of (printed r) ≡ r }
+{}
+
+/// The tests of texts hold of exactly these texts: numbers of at most so many digits, amounts, and fractions.
+pub fn tested_texts()
+    ensures number { (most : ℕ) (bs : List ℕ) → IsTrue (is_number most bs) ↔ IsNumber most bs }
+    ensures amount { (bs : List ℕ) → IsTrue (is_amount_text bs) ↔ IsAmount bs }
+    ensures fraction { (bs : List ℕ) → IsTrue (is_fraction_text bs) ↔ IsFraction bs }
 {}
 
 /// The ratios that network texts write are exactly those that `is_amount` tests for, and the whole numbers of at most

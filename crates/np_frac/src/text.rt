@@ -2,7 +2,7 @@
 
 ghost use Rattle.std.specs.Prelude.{◌≡◌, ◌≤◌, ◌<◌, ◌^◌, ◌++◌, OnOk, OnErr, IfSome};
 ghost use Rattle.std.specs.Option.{SomeIff};
-ghost use Rattle.np_frac.specs.Lowest.{Fits};
+ghost use Rattle.np_frac.specs.Fits.{Fits};
 ghost use Rattle.np_frac.specs.Text.{printed, IsFraction, fraction_of, IsFractionEnd, fraction_lower as lower_of};
 
 use crate::digits::{read_part, split_at_mark, with_sign, without_minus};

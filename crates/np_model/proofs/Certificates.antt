@@ -3,7 +3,8 @@ use Rattle.std.specs.Prelude.{◌≡◌, Bool, true, false, if◌then◌else◌}
 use Rattle.std.specs.List.{zip, enumerate_from}
 use Rattle.std.proofs.Common.{refl, sym, ◌∙◌}
 use Rattle.np_frac.specs.Ratio.{Ratio, zero_ratio, ◌≤ᵣ◌, ◌<ᵣ◌, ◌*ᵣ◌, is_below}
-use Rattle.np_model.specs.Network.{coefficient, IsAtMost, IsWithin, reduced, IsFinite, bound_of, least_worth, NoPlan}
+use Rattle.np_model.specs.Network.Arcs.{coefficient, IsAtMost, IsWithin, IsFinite, bound_of}
+use Rattle.np_model.specs.Network.Duality.{reduced, least_worth, NoPlan}
 use Rattle.np_model.specs.declared.arc.Upper.TheVariants.{Finite, Infinite}
 use Rattle.np_model.specs.declared.arc.Upper.{Upper}
 use Rattle.np_model.specs.declared.arc.NetArc.{NetArc}

@@ -4,7 +4,7 @@ use Rattle.std.proofs.Common.{arith}
 use Rattle.std.proofs.lemmas.Bool.Decides.{nat_tests}
 use Rattle.np_frac.specs.Ratio.{Ratio, zero_ratio, one_ratio, negated}
 use Rattle.np_model.specs.declared.arc.Ends.TheVariants.{Link, Drain, Feed}
-use Rattle.np_model.specs.Network.{coefficient}
+use Rattle.np_model.specs.Network.Arcs.{coefficient}
 
 pub coefficient_from : (from to v : ℕ) (gain : Ratio) → v ≡ from → coefficient (Link from to gain) v ≡ one_ratio
 coefficient_from from to v gain e = grind (arith, nat_tests)

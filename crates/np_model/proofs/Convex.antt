@@ -8,8 +8,11 @@ use Rattle.np_model.specs.declared.arc.Ends.{Ends}
 use Rattle.np_model.specs.declared.arc.Upper.{Upper}
 use Rattle.np_model.specs.declared.arc.Upper.TheVariants.{Finite, Infinite}
 use Rattle.np_model.specs.declared.scheme.Band.{Band}
-use Rattle.np_model.specs.Network.{coefficient, at, IsAtMost, IsWithin, pull, reduced}
-use Rattle.np_model.specs.Stages.{Stage, Segment, end_after, segments_beyond, segments, last_end, lesser, amount_in, cost_at, hull, hull_net, StagesFeasible, stages_cost, StagesLeast, IsUnder, IsKink, StagesShow, IsConvexFrom, IsValid}
+use Rattle.np_model.specs.Network.Arcs.{coefficient, IsAtMost, IsWithin, lesser, IsUnder}
+use Rattle.np_model.specs.Network.Flows.{at}
+use Rattle.np_model.specs.Network.Duality.{pull, reduced}
+use Rattle.np_model.specs.Scheme.Segments.{Stage, Segment, end_after, segments_beyond, segments, last_end, amount_in, cost_at, hull, IsConvexFrom, IsValid}
+use Rattle.np_model.specs.Scheme.Convex.{hull_net, StagesFeasible, stages_cost, StagesLeast, IsKink, StagesShow}
 use Rattle.np_frac.proofs.RatioLaws.{+ᵣ-zero, +ᵣ_assoc, +ᵣ_middle, *ᵣ-+ᵣ, split_by, ≤ᵣ_same, ≤ᵣ_refl, ≤ᵣ_trans, ≤ᵣ_antisym, +ᵣ_at_most, below_or, <ᵣ_is_≤ᵣ, clash, *ᵣ_at_most, *ᵣ_at_least, zero_times, if_below, add_back, minus_at_most, minus_not_negative, grows, ≤ᵣ-<ᵣ_trans}
 use Rattle.np_frac.proofs.Sums.{total_same, total_each, total-+ᵣ, *ᵣ-total, total_is, sum, total_zip_at_most, exchange, total_zip_map, all_zip_map, all_zip_left, length-map}
 use Rattle.np_model.proofs.Duality.{worth_of_balance}

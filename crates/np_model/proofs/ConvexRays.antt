@@ -10,8 +10,10 @@ use Rattle.np_frac.proofs.Sums.{sum, total_is, total_zip_map, all_zip_map, lengt
 use Rattle.np_model.specs.declared.arc.Upper.{Upper}
 use Rattle.np_model.specs.declared.arc.Upper.TheVariants.{Finite, Infinite}
 use Rattle.np_model.specs.declared.scheme.Band.{Band}
-use Rattle.np_model.specs.Network.{IsAtMost, IsWithin, plan_cost}
-use Rattle.np_model.specs.Stages.{Stage, end_after, segments_beyond, last_end, last_slope, amount_in, cost_at, hull, hull_net, StagesFeasible, StagesRay, StagesFall, stages_cost, IsUnder, IsConvexFrom, IsValid}
+use Rattle.np_model.specs.Network.Arcs.{IsAtMost, IsWithin, IsUnder}
+use Rattle.np_model.specs.Network.Flows.{plan_cost}
+use Rattle.np_model.specs.Scheme.Segments.{Stage, end_after, segments_beyond, last_end, last_slope, amount_in, cost_at, hull, IsConvexFrom, IsValid}
+use Rattle.np_model.specs.Scheme.Convex.{hull_net, StagesFeasible, StagesRay, StagesFall, stages_cost}
 use Rattle.np_model.proofs.Convex.{lesser_mono, under_end_after, part, part_is, part_none, part_not_negative, cost_beyond, cost_beyond_is}
 use Rattle.np_model.proofs.Rays.{along, feasible_along}
 

@@ -1,14 +1,17 @@
 -- Weak duality.
 use Rattle.std.specs.Prelude.{◌≡◌, length, List}
 use Rattle.std.specs.List.{zip, enumerate_from}
-use Rattle.std.proofs.Common.{arith, inl, inr, ap, ◌∙◌}
+use Rattle.std.proofs.Common.{arith, inl, inr, ap, sym, ◌∙◌}
 use Rattle.np_frac.specs.Ratio.{Ratio, zero_ratio, ◌≤ᵣ◌, ◌+ᵣ◌, ◌*ᵣ◌, total}
-use Rattle.np_model.specs.Network.{Network, coefficient, at, balance, plan_cost, IsAtMost, IsWithin, Feasible, reduced, IsFull, IsSlack, WeakDuality}
+use Rattle.np_model.specs.Network.Flows.{Network, at, plan_cost, Feasible}
+use Rattle.np_model.specs.Network.Arcs.{coefficient, IsAtMost, IsWithin, IsFull}
+use Rattle.np_model.specs.Network.Duality.{reduced, IsSlack, WeakDuality}
 use Rattle.np_model.specs.declared.arc.Upper.TheVariants.{Finite, Infinite}
 use Rattle.np_model.specs.declared.arc.Upper.{Upper}
 use Rattle.np_model.specs.declared.arc.NetArc.{NetArc}
 use Rattle.np_frac.proofs.RatioLaws.{≤ᵣ_refl, +ᵣ_at_most, below_or, <ᵣ_is_≤ᵣ, *ᵣ_at_most, *ᵣ_at_least, zero_times}
 use Rattle.np_frac.proofs.Sums.{total_same, total_zip_at_most, numbered, priced}
+use Rattle.np_model.proofs.Balance.{taken, balance-is}
 
 -- what a full arc carries is no less than any amount that its upper bound allows
 full_most : (u : Upper) (q s : Ratio) → IsFull q u → IsAtMost s u → s ≤ᵣ q
@@ -28,11 +31,11 @@ slack_least p a q s h k =
     ]
 
 -- the potentials times the balance depend on the supply alone
-pub worth_of_balance : (net : Network) (p x : List Ratio) → length p ≡ length net.supply → Feasible net x → total (λ (v, potential). potential *ᵣ balance net.arcs x v) (enumerate_from 0 p) ≡ total (λ (v, potential). potential *ᵣ at net.supply v) (enumerate_from 0 p)
+pub worth_of_balance : (net : Network) (p x : List Ratio) → length p ≡ length net.supply → Feasible net x → total (λ (v, potential). potential *ᵣ taken net.arcs x v) (enumerate_from 0 p) ≡ total (λ (v, potential). potential *ᵣ at net.supply v) (enumerate_from 0 p)
 worth_of_balance net p x e f =
-    total_same (λ (v, potential). potential *ᵣ balance net.arcs x v) (λ (v, potential). potential *ᵣ at net.supply v) (enumerate_from 0 p)
-    (numbered (λ (v, potential). potential *ᵣ balance net.arcs x v ≡ potential *ᵣ at net.supply v) (length net.supply) p (omega arith)
-    (λ v potential h. ap (λ b. potential *ᵣ b) (f.balanced v h)))
+    total_same (λ (v, potential). potential *ᵣ taken net.arcs x v) (λ (v, potential). potential *ᵣ at net.supply v) (enumerate_from 0 p)
+    (numbered (λ (v, potential). potential *ᵣ taken net.arcs x v ≡ potential *ᵣ at net.supply v) (length net.supply) p (omega arith)
+    (λ v potential h. ap (λ b. potential *ᵣ b) (sym (balance-is net.arcs x v) ∙ f.balanced v h)))
 
 -- the reduced costs of a feasible plan and the worth of the supply are its cost
 pub cost_is : (net : Network) (p x : List Ratio) → length p ≡ length net.supply → Feasible net x → plan_cost net.arcs x ≡ total (λ (a, amount). reduced p a.ends a.cost *ᵣ amount) (zip net.arcs x) +ᵣ total (λ (v, potential). potential *ᵣ at net.supply v) (enumerate_from 0 p)

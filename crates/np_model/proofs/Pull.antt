@@ -6,9 +6,13 @@ use Rattle.std.proofs.lemmas.Bool.{cases_eq}
 use Rattle.std.proofs.lemmas.Bool.Decides.{nat_tests}
 use Rattle.np_frac.specs.Ratio.{Ratio, zero_ratio, one_ratio, negated, ◌-ᵣ◌, ◌+ᵣ◌, ◌*ᵣ◌, total}
 use Rattle.np_model.specs.declared.arc.Ends.TheVariants.{Link, Drain, Feed}
-use Rattle.np_model.specs.Network.{coefficient, at, pull, reduced}
+use Rattle.np_model.specs.Network.Arcs.{ReducedExactly, coefficient}
+use Rattle.np_model.specs.Network.Flows.{at}
+use Rattle.np_model.specs.Network.Duality.{ReducedByEnds, pull, reduced}
 use Rattle.np_frac.proofs.RatioLaws.{+ᵣ-zero, zero-+ᵣ, +ᵣ-*ᵣ, one-*ᵣ, zero-*ᵣ, negated-*ᵣ, minus_link, minus_negated}
 use Rattle.std.proofs.lemmas.Grind.{common_steps}
+use Rattle.np_frac.specs.Exact.{◌▷◌, plus_of, minus_of, times_of}
+use Rattle.np_frac.proofs.Exactness.{found_by, plus_exact, minus_exact, times_exact}
 use Rattle.np_frac.proofs.Sums.{sum, total_is, total_each, total-+ᵣ}
 
 -- k at the node a, and 0 elsewhere
@@ -74,3 +78,18 @@ reduced_feed p v c h = rw (pull_feed p v h) (minus_negated c (at p v))
 -- an element that is there
 pub at_is : (p : List Ratio) (v : ℕ) (q : Ratio) → v < length p → q ≡ get_or p v q → at p v ≡ q
 at_is p v q h e = grind (arith, common_steps, e)
+
+-- ---- by the ends as one function
+
+pub reduced_by_ends : ReducedByEnds
+reduced_by_ends p (Link from to gain) c nodes = reduced_link p from to gain c nodes.2 nodes.0 nodes.1
+reduced_by_ends p (Drain v) c nodes = reduced_drain p v c nodes
+reduced_by_ends p (Feed v) c nodes = reduced_feed p v c nodes
+
+pub reduced_exactly : ReducedExactly
+reduced_exactly (Link from to gain) cost first second r e =
+    let product = found_by (times_of gain second) (λ product. minus_of cost first ▷ λ difference. plus_of difference product) r e in
+    let difference = found_by (minus_of cost first) (λ difference. plus_of difference product.0) r product.2 in
+    rw (← minus_exact cost first difference.0 difference.1, ← times_exact gain second product.0 product.1) (plus_exact difference.0 product.0 r difference.2)
+reduced_exactly (Drain v) cost first second r e = minus_exact cost first r e
+reduced_exactly (Feed v) cost first second r e = plus_exact cost first r e

@@ -4,18 +4,21 @@ use Rattle.std.specs.List.{AllByRecursion, zip}
 use Rattle.std.proofs.Common.{refl, arith, inl, inr, sym, subst, ◌∙◌}
 use Rattle.std.proofs.lemmas.List.Elements.{recursion_from_All, All-from_recursion}
 use Rattle.np_frac.specs.Ratio.{Ratio, zero_ratio, ◌≤ᵣ◌, ◌<ᵣ◌, ◌+ᵣ◌, ◌*ᵣ◌, total}
-use Rattle.np_model.specs.Network.{Network, coefficient, at, plan_cost, IsAtMost, IsWithin, Feasible, Ray, Falls}
+use Rattle.np_model.specs.Network.Flows.{moved, Network, at, plan_cost, Feasible}
+use Rattle.np_model.specs.Network.Arcs.{coefficient, IsAtMost, IsWithin}
+use Rattle.np_model.specs.Network.Duality.{Ray, Falls}
 use Rattle.np_model.specs.declared.arc.Upper.TheVariants.{Finite, Infinite}
 use Rattle.np_model.specs.declared.arc.Upper.{Upper}
 use Rattle.np_model.specs.declared.arc.NetArc.{NetArc}
 use Rattle.np_frac.proofs.RatioLaws.{*ᵣ-zero, +ᵣ-zero, ≤ᵣ_antisym, +ᵣ_at_most, below_or, *ᵣ_at_most, along_step, enough}
 use Rattle.np_frac.proofs.Sums.{sum, total_is}
+use Rattle.np_model.proofs.Balance.{balance-is}
 
 -- x + t d, place by place
 abbrev pub along : Ratio → List Ratio → List Ratio → List Ratio
 along t [] ds = []
 along t (x ∷ xs) [] = []
-along t (x ∷ xs) (d ∷ ds) = (x +ᵣ t *ᵣ d) ∷ along t xs ds
+along t (x ∷ xs) (d ∷ ds) = moved x t d ∷ along t xs ds
 
 length-along : (t : Ratio) (n : ℕ) (xs ds : List Ratio) → length xs ≡ n → length ds ≡ n → length (along t xs ds) ≡ n
 length-along t n [] ds e f = e
@@ -59,8 +62,11 @@ pub feasible_along : (net : Network) (x d : List Ratio) (t : Ratio) → zero_rat
 feasible_along net x d t s r = record {
   one_each = length-along t (length net.arcs) x d r.feasible.one_each r.one_each;
   balanced = λ v h.
-      total_along (λ (a : NetArc). coefficient a.ends v) t net.arcs x d r.feasible.one_each r.one_each
-      ∙ rw (r.feasible.balanced v h, r.balanced v h, *ᵣ-zero t) (+ᵣ-zero (at net.supply v));
+      let here = sym (balance-is net.arcs x v) ∙ r.feasible.balanced v h in
+      let along_it = sym (balance-is net.arcs d v) ∙ r.balanced v h in
+      balance-is net.arcs (along t x d) v
+      ∙ total_along (λ (a : NetArc). coefficient a.ends v) t net.arcs x d r.feasible.one_each r.one_each
+      ∙ rw (here, along_it, *ᵣ-zero t) (+ᵣ-zero (at net.supply v));
   within = All-from_recursion (λ (a, q). IsWithin a q) (zip net.arcs (along t x d))
       (within_along t net.arcs x d s r.feasible.one_each r.one_each
       (recursion_from_All (λ (a, q). IsWithin a q) (zip net.arcs x) r.feasible.within)

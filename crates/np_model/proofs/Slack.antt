@@ -5,7 +5,9 @@ use Rattle.std.proofs.Common.{subst}
 use Rattle.np_frac.specs.Ratio.{Ratio, zero_ratio, is_below}
 use Rattle.np_frac.proofs.RatioLaws.{<ᵣ_is_≤ᵣ, clash, is_below_true, is_below_false}
 use Rattle.np_model.specs.declared.arc.NetArc.{NetArc}
-use Rattle.np_model.specs.Network.{Network, reduced, IsFull, IsSlack, IsWithin, Least, balance, at}
+use Rattle.np_model.specs.Network.Flows.{Network, Least, balance, at}
+use Rattle.np_model.specs.Network.Duality.{reduced, IsSlack}
+use Rattle.np_model.specs.Network.Arcs.{IsFull, IsWithin}
 use Rattle.np_model.proofs.Duality.{weak_duality}
 
 pub slack_above : (p : List Ratio) (a : NetArc) (q r : Ratio) → r ≡ reduced p a.ends a.cost → is_below zero_ratio r ≡ true → q ≡ a.lower → IsSlack p a q

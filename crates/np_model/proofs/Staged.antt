@@ -5,9 +5,11 @@ use Rattle.std.proofs.Common.{refl, arith, le_refl}
 use Rattle.std.proofs.lemmas.List.Elements.{recursion_from_All, All-from_recursion}
 use Rattle.np_model.specs.declared.scheme.Flow.{Flow}
 use Rattle.np_model.specs.declared.scheme.Scheme.{Scheme}
-use Rattle.np_model.specs.Valid.{IsSound}
-use Rattle.np_model.specs.Stages.{Stage, IsValid, hull_net}
-use Rattle.np_model.specs.Schemes.{is_hold, stage_in, stage_of, staged, PricesProve, PricesExclude, RaysProve}
+use Rattle.np_model.specs.Scheme.Valid.{IsSound}
+use Rattle.np_model.specs.Scheme.Segments.{Stage, IsValid}
+use Rattle.np_model.specs.Scheme.Convex.{hull_net}
+use Rattle.np_model.specs.Scheme.Kinds.{is_hold}
+use Rattle.np_model.specs.Scheme.Plans.{stage_in, stage_of, staged, PricesProve, PricesExclude, RaysProve}
 use Rattle.np_model.proofs.Certificates.{no_plan}
 use Rattle.np_model.proofs.Convex.{stages_duality}
 use Rattle.np_model.proofs.ConvexRays.{stages_fall}

@@ -1,13 +1,15 @@
 //! The laws of generalised minimum-cost flow, as the clauses of functions that do nothing.
 
-ghost use Rattle.np_model.specs.Network.{ReducedByEnds, WeakDuality, NoPlan, Falls};
-ghost use Rattle.np_model.specs.Stages.{StagesDuality, StagesFall};
-ghost use Rattle.np_model.specs.Schemes.{PricesProve, PricesExclude, RaysProve};
+ghost use Rattle.np_model.specs.Network.Arcs.{ReducedExactly};
+ghost use Rattle.np_model.specs.Network.Duality.{ReducedByEnds, WeakDuality, NoPlan, Falls};
+ghost use Rattle.np_model.specs.Scheme.Convex.{StagesDuality, StagesFall};
+ghost use Rattle.np_model.specs.Scheme.Plans.{PricesProve, PricesExclude, RaysProve};
 
 /// The reduced cost of a link from i to j with cost c and gain g is `c - p(i) + g * p(j)`, that of a drain at v `c - p(v)`, and
-/// that of a feed at v `c + p(v)`.
+/// that of a feed at v `c + p(v)`; what the operations of [`Ends::reduced_cost`](crate::Ends::reduced_cost) find is that ratio.
 pub fn reduced_costs()
-    ensures { ReducedByEnds }
+    ensures by_ends { ReducedByEnds }
+    ensures exact { ReducedExactly }
 {}
 
 /// Weak duality: where a list of ratios is feasible and potentials show it optimal by complementary slackness, no

@@ -1,7 +1,10 @@
 //! The list types: each is its `Vec`, and a contract sees the list of its elements.
 
-ghost use Rattle.std.specs.Prelude.{◌≡◌, [], slice_index_or};
+ghost use Rattle.std.specs.Prelude.{◌≡◌};
 
+use crate::arc::NetArc;
+use crate::log::Entry;
+use crate::scheme::{Band, Flow};
 use np_frac::Frac;
 use std::marker::Model;
 
@@ -67,6 +70,8 @@ impl Model for Names {
 }
 
 impl Names {
+    ghost use Rattle.np_model.specs.Scheme.Names.{name_at};
+
     /// The names.
     pub fn as_slice(&self) -> &[Name]
         ensures { result.now ≡ self.now }
@@ -76,7 +81,7 @@ impl Names {
 
     /// The name with this number, from 0, and the empty name where there is none.
     pub fn name_at(&self, number: usize) -> &[u8]
-        ensures { result.now ≡ slice_index_or self.now number [] }
+        ensures { result.now ≡ name_at self.now number }
     {
         let names = self.items.as_slice();
         if number < names.len() {
@@ -84,5 +89,115 @@ impl Names {
         } else {
             b""
         }
+    }
+}
+
+/// Arcs in order.
+#[derive(Debug, Drop)]
+pub struct NetArcs {
+    pub items: Vec<NetArc>,
+}
+
+impl Model for NetArcs {
+    ghost use Rattle.std.specs.Prelude.{List};
+    ghost use Rattle.np_model.specs.declared.arc.NetArc.{NetArc};
+
+    ghost Value = { List NetArc };
+
+    ghost view = { λ list. list.items.items };
+}
+
+impl NetArcs {
+    /// The arcs.
+    pub fn as_slice(&self) -> &[NetArc]
+        ensures { result.now ≡ self.now }
+    {
+        self.items.as_slice()
+    }
+}
+
+/// Bands in order, from the flow's own upper bound outwards.
+#[derive(Debug, Drop)]
+pub struct Bands {
+    pub items: Vec<Band>,
+}
+
+impl Model for Bands {
+    ghost use Rattle.std.specs.Prelude.{List};
+    ghost use Rattle.np_model.specs.declared.scheme.Band.{Band};
+
+    ghost Value = { List Band };
+
+    ghost view = { λ list. list.items.items };
+}
+
+impl Bands {
+    /// The bands.
+    pub fn as_slice(&self) -> &[Band]
+        ensures { result.now ≡ self.now }
+    {
+        self.items.as_slice()
+    }
+}
+
+/// Flows in order.
+#[derive(Debug, Drop)]
+pub struct Flows {
+    pub items: Vec<Flow>,
+}
+
+impl Model for Flows {
+    ghost use Rattle.std.specs.Prelude.{List};
+    ghost use Rattle.np_model.specs.declared.scheme.Flow.{Flow};
+
+    ghost Value = { List Flow };
+
+    ghost view = { λ list. list.items.items };
+}
+
+impl Flows {
+    ghost use Rattle.np_model.specs.Scheme.Names.{name_at, flow_names};
+
+    /// The flows.
+    pub fn as_slice(&self) -> &[Flow]
+        ensures { result.now ≡ self.now }
+    {
+        self.items.as_slice()
+    }
+
+    /// The name of the flow with this number, from 0, and the empty name where there is none.
+    pub fn name_at(&self, number: usize) -> &[u8]
+        ensures { result.now ≡ name_at (flow_names self.now) number }
+    {
+        let flows = self.items.as_slice();
+        if number < flows.len() {
+            flows[number].name.as_slice()
+        } else {
+            b""
+        }
+    }
+}
+
+/// Pivots in order.
+#[derive(Debug, Drop)]
+pub struct Entries {
+    pub items: Vec<Entry>,
+}
+
+impl Model for Entries {
+    ghost use Rattle.std.specs.Prelude.{List};
+    ghost use Rattle.np_model.specs.declared.log.Entry.{Entry};
+
+    ghost Value = { List Entry };
+
+    ghost view = { λ list. list.items.items };
+}
+
+impl Entries {
+    /// The pivots.
+    pub fn as_slice(&self) -> &[Entry]
+        ensures { result.now ≡ self.now }
+    {
+        self.items.as_slice()
     }
 }

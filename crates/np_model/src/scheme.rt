@@ -1,12 +1,11 @@
 //! A planning problem as its text gives it: nodes and flows over periods, with convex costs.
 
-ghost use Rattle.std.specs.Prelude.{◌≡◌, [], map, slice_index_or};
-ghost use Rattle.np_model.specs.Valid.{IsScheme, IsScheme-prop};
+ghost use Rattle.std.specs.Prelude.{◌≡◌};
+ghost use Rattle.np_model.specs.Scheme.Valid.{IsScheme, IsScheme-prop};
 
-use crate::arc::Upper;
-use crate::lists::{Fracs, Name, Names};
+use crate::arc::{Ends, Upper};
+use crate::lists::{Bands, Flows, Fracs, Name, Names};
 use np_frac::Frac;
-use std::marker::Model;
 
 /// What a flow joins, by the numbers of the nodes in their order.
 #[derive(Clone, Copy, Debug, PartialEq, Eq)]
@@ -21,35 +20,60 @@ pub enum FlowKind {
     Feed { node: u32 },
 }
 
+impl FlowKind {
+    ghost use Rattle.std.specs.Prelude.{◌+◌, ◌*◌, ◌<◌, ◌≤◌, ◌^◌};
+    ghost use Rattle.np_model.specs.Scheme.Kinds.{ends_in, is_hold, periods_of, JoinsNodes};
+
+    /// Whether it leads into the next period.
+    pub fn is_hold(self) -> bool
+        ensures { result ≡ is_hold self }
+    {
+        matches!(self, FlowKind::Hold { .. })
+    }
+
+    /// In how many of so many periods a flow of this kind has an arc: a hold has none in the last one.
+    pub fn periods(self, periods: u32) -> u32
+        ensures { result ≡ periods_of periods self }
+    {
+        if self.is_hold() {
+            periods.saturating_sub(1)
+        } else {
+            periods
+        }
+    }
+
+    /// The ends of its arc in a period, from 1, among the expanded nodes: with `nodes` nodes, node i in a period is the
+    /// expanded node `(period - 1) * nodes + i`.
+    pub fn ends_in(self, nodes: u32, period: u32) -> Ends
+        requires some { 0 < period }
+        requires few { (period + 1) * nodes < 2 ^ 32 }
+        requires short { period < 2 ^ 31 }
+        requires joins { JoinsNodes nodes self }
+        ensures { result ≡ ends_in nodes period self }
+    {
+        let before = (period - 1) * nodes;
+        match self {
+            FlowKind::Link { from, to, gain } => Ends::Link {
+                from: before + from,
+                to: before + to,
+                gain,
+            },
+            FlowKind::Hold { node, gain } => Ends::Link {
+                from: before + node,
+                to: period * nodes + node,
+                gain,
+            },
+            FlowKind::Drain { node } => Ends::Drain(before + node),
+            FlowKind::Feed { node } => Ends::Feed(before + node),
+        }
+    }
+}
+
 /// A band beyond the present end of a flow: how wide it is, and what a unit within it costs.
 #[derive(Clone, Copy, Debug, PartialEq, Eq)]
 pub struct Band {
     pub width: Upper,
     pub slope: Frac,
-}
-
-/// Bands in order, from the flow's own upper bound outwards.
-#[derive(Debug, Drop)]
-pub struct Bands {
-    pub items: Vec<Band>,
-}
-
-impl Model for Bands {
-    ghost use Rattle.std.specs.Prelude.{List};
-    ghost use Rattle.np_model.specs.declared.scheme.Band.{Band};
-
-    ghost Value = { List Band };
-
-    ghost view = { λ list. list.items.items };
-}
-
-impl Bands {
-    /// The bands.
-    pub fn as_slice(&self) -> &[Band]
-        ensures { result.now ≡ self.now }
-    {
-        self.items.as_slice()
-    }
 }
 
 /// A flow, in every period alike. `lower`, `upper` and `cost` are those of its first segment; each band adds one.
@@ -61,42 +85,6 @@ pub struct Flow {
     pub upper: Upper,
     pub cost: Frac,
     pub bands: Bands,
-}
-
-/// Flows in order.
-#[derive(Debug, Drop)]
-pub struct Flows {
-    pub items: Vec<Flow>,
-}
-
-impl Model for Flows {
-    ghost use Rattle.std.specs.Prelude.{List};
-    ghost use Rattle.np_model.specs.declared.scheme.Flow.{Flow};
-
-    ghost Value = { List Flow };
-
-    ghost view = { λ list. list.items.items };
-}
-
-impl Flows {
-    /// The flows.
-    pub fn as_slice(&self) -> &[Flow]
-        ensures { result.now ≡ self.now }
-    {
-        self.items.as_slice()
-    }
-
-    /// The name of the flow with this number, from 0, and the empty name where there is none.
-    pub fn name_at(&self, number: usize) -> &[u8]
-        ensures { result.now ≡ slice_index_or (map (λ flow. flow.name) self.now) number [] }
-    {
-        let flows = self.items.as_slice();
-        if number < flows.len() {
-            flows[number].name.as_slice()
-        } else {
-            b""
-        }
-    }
 }
 
 /// A valid planning problem. `supply` has one amount for each node in each period: with k nodes, that of

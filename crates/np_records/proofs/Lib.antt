@@ -4,3 +4,4 @@ pub mod FieldFacts
 pub mod TextFacts
 pub mod NameFacts
 pub mod FaultFacts
+pub mod NumberFacts

@@ -11,12 +11,14 @@ ghost use Rattle.std.specs.Prelude.{◌≡◌, IfOk, map};
 ghost use Rattle.csv.specs.Records.{fields_of};
 ghost use Rattle.np_records.specs.Records.{records_of};
 
+mod fields;
 pub mod laws;
 mod names;
 mod reading;
 mod writing;
 
 pub use csv::ByteRecord;
+pub use fields::{is_kind, period, whole};
 pub use names::NameTable;
 use np_frac::Memory;
 pub use reading::{Records, field};

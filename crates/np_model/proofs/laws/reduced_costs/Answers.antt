@@ -1,5 +1,8 @@
-use Rattle.np_model.proofs.Pull.{reduced_link, reduced_drain, reduced_feed}
+use Rattle.np_model.proofs.Pull.{reduced_by_ends, reduced_exactly}
 use Rattle.np_model.proofs.laws.reduced_costs.Goals as goal
 
-pub returns : goal.returns
-returns c = record { link = reduced_link; drain = reduced_drain; feed = reduced_feed }
+pub returns-clause-by_ends : goal.returns-clause-by_ends
+returns-clause-by_ends c = reduced_by_ends
+
+pub returns-clause-exact : goal.returns-clause-exact
+returns-clause-exact c = reduced_exactly

@@ -1,5 +1,5 @@
 use Rattle.std.proofs.Common.{◌∙◌, subst}
-use Rattle.np_frac.specs.Lowest.{IsSumFound}
+use Rattle.np_frac.specs.Steps.Found.{IsSumFound}
 use Rattle.np_frac.proofs.Exactness.{minus_found}
 use Rattle.np_frac.proofs.frac.Frac.minus.Goals as goal
 

@@ -1,6 +1,6 @@
 use Rattle.std.proofs.Common.{◌∙◌, subst}
 use Rattle.np_frac.specs.Ratio.{inverse_by, ◌*ᵣ◌}
-use Rattle.np_frac.specs.Lowest.{IsFound}
+use Rattle.np_frac.specs.Steps.Found.{IsFound}
 use Rattle.np_frac.proofs.Exactness.{over_found}
 use Rattle.np_frac.proofs.frac.Frac.over.Goals as goal
 

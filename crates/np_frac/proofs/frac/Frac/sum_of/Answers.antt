@@ -3,7 +3,7 @@ use Rattle.std.specs.Int.{w128}
 use Rattle.std.proofs.lemmas.Int.{to_z-of_z}
 use Rattle.std.proofs.Math.Nat.{mul-pos}
 use Rattle.np_frac.specs.Ratio.{made, sum_is}
-use Rattle.np_frac.specs.Signs.{cross_trans}
+use Rattle.np_frac.specs.Steps.Signs.{cross_trans}
 use Rattle.np_frac.proofs.Fractions.{gcd-some, reduced-same, cast_quotient, quotient-some}
 use Rattle.np_frac.proofs.Wholes.{whole_by_den}
 use Rattle.np_frac.proofs.SumParts.{SumParts, sum-common, sum-left, sum-right, HasSum-parts, sum-parts-same}
