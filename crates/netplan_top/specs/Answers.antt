@@ -10,7 +10,7 @@ use Rattle.net_csv.specs.declared.refused.Tail.{Tail}
 use Rattle.certificates.specs.Words.{plan_code_word}
 use Rattle.certificates.specs.declared.refused.PlanCode.{PlanCode}
 use Rattle.net_csv.specs.declared.refused.Tail.TheVariants as tail
-use Rattle.np_model.specs.declared.plan.CheckRow.{CheckRow}
+use Rattle.np_model.specs.declared.rows.CheckRow.{CheckRow}
 use Rattle.np_model.specs.declared.plan.Plan.{Plan}
 use Rattle.np_model.specs.declared.scheme.Scheme.{Scheme}
 use Rattle.cert_checker.specs.Walk.{walk}

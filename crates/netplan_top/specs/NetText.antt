@@ -12,8 +12,8 @@ use Rattle.np_model.specs.declared.arc.Upper.TheVariants.{Finite, Infinite}
 use Rattle.np_model.specs.declared.arc.NetArc.{NetArc}
 use Rattle.np_model.specs.declared.scheme.Flow.{Flow}
 use Rattle.np_model.specs.declared.scheme.Scheme.{Scheme}
-use Rattle.np_model.specs.Schemes.{staged}
-use Rattle.np_model.specs.Stages.{Stage}
+use Rattle.np_model.specs.Scheme.Plans.{staged}
+use Rattle.np_model.specs.Scheme.Segments.{Stage}
 use Rattle.convex_arcs.specs.Segments.{segment_arcs, flat_arcs}
 use Rattle.netplan_top.specs.Texts.{end_record}
 

@@ -3,7 +3,7 @@ use Rattle.std.specs.Prelude.{◌≡◌, ℕ, Some, None, Ok, Err, List, drop}
 use Rattle.np_records.specs.Records.{records_of}
 use Rattle.np_model.specs.declared.scheme.Scheme.{Scheme}
 use Rattle.np_model.specs.declared.plan.Plan.{Plan}
-use Rattle.np_model.specs.Fits.{PlanFits}
+use Rattle.np_model.specs.Scheme.Fits.{PlanFits}
 use Rattle.net_csv.specs.Grammar.{read_records, IsSchemeOf}
 use Rattle.net_csv.specs.declared.refused.Code.{Code}
 use Rattle.net_csv.specs.declared.refused.Tail.{Tail}

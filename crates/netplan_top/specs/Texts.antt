@@ -4,7 +4,7 @@ use Rattle.std.specs.Fmt.{decimal}
 use Rattle.np_frac.specs.Text.{printed}
 use Rattle.np_frac.specs.declared.frac.Past.{Past}
 use Rattle.np_records.specs.Texts.{records_text}
-use Rattle.np_model.specs.declared.plan.CheckRow.{CheckRow}
+use Rattle.np_model.specs.declared.rows.CheckRow.{CheckRow}
 use Rattle.np_model.specs.declared.scheme.Scheme.{Scheme}
 use Rattle.certificates.specs.Words.{op_word, check_row_word}
 use Rattle.cert_checker.specs.declared.answer.Checked.{Checked}

@@ -1,7 +1,7 @@
 //! What is said of an input.
 
 ghost use Rattle.std.specs.Prelude.{◌≡◌, ◌<◌, ◌^◌, IfOk, length};
-ghost use Rattle.np_model.specs.Fits.{PlanFits};
+ghost use Rattle.np_model.specs.Scheme.Fits.{PlanFits};
 ghost use Rattle.netplan_top.specs.Answers.{IsAnswer, IsExpandAnswer, AnswerOf, IsJudged, IsRefused, IsStopped};
 ghost use Rattle.netplan_top.specs.NetText.{net_text};
 
