@@ -9,21 +9,19 @@ use Rattle.std.proofs.lemmas.List.Elements.{filter_map-append, All-head, All-tai
 use Rattle.std.proofs.lemmas.List.{length-append}
 use Rattle.std.proofs.lemmas.Nat.{mul-add-lt}
 use Rattle.np_frac.specs.Ratio.{Ratio}
-use Rattle.np_frac.specs.Text.{number}
-use Rattle.np_records.specs.Names.{place_of}
+use Rattle.np_frac.specs.Text.{number, is_number}
+use Rattle.np_records.specs.Names.{place_of, place_in}
 use Rattle.np_records.specs.Records.{field_of}
-use Rattle.np_model.specs.declared.plan.Entry.{Entry}
-use Rattle.net_csv.specs.Fields.{is_number, is_period, place_in}
-use Rattle.net_csv.specs.Network.{is_kind}
-use Rattle.net_csv.proofs.Places.{place-is, place-within}
-use Rattle.net_csv.proofs.RowKinds.{kind-is}
-use Rattle.net_csv.proofs.FieldFacts.{and-left, and-right}
+use Rattle.np_model.specs.declared.log.Entry.{Entry}
+use Rattle.np_records.specs.Rows.{is_period, is_kind, whole_in}
+use Rattle.certificates.proofs.NameTables.{place-is, place-within, kind-is}
+use Rattle.np_frac.proofs.TextTests.{and-left, and-right}
 use Rattle.np_records.proofs.FaultFacts.{or-first, or-rest, unless-none}
 use Rattle.certificates.specs.declared.refused.PlanCode.{PlanCode}
 use Rattle.certificates.specs.declared.refused.PlanCode.TheVariants as code
-use Rattle.np_records.specs.Faults.{unless}
-use Rattle.certificates.specs.Fields.{fraction_in, whole_in, overflow_in, entry_in, fields_fault, used_fault, period_fault, given_fault}
-use Rattle.certificates.specs.Claims.{Outline, Claims, claims_of, of_kind, found, amounts_given}
+use Rattle.np_records.specs.Faults.{unless, found}
+use Rattle.certificates.specs.Fields.{fraction_in, overflow_in, entry_in, fields_fault, used_fault, period_fault, given_fault}
+use Rattle.certificates.specs.Claims.{Outline, Claims, claims_of, of_kind, amounts_given}
 use Rattle.certificates.specs.Faults.{once_fault, name_fault, put_fault, amount_fault, pivot_fault, is_free, is_next, place_named, last_for, record_fault}
 use Rattle.certificates.specs.Steps.Claims.{IsOutline, with_amount, with_record}
 use Rattle.certificates.proofs.Found.{found-same, found-new, listed-same, amounts-same, amounts-put, none-from}

@@ -22,3 +22,4 @@ mod WrittenAmounts
 mod Written
 mod WrittenTexts
 mod WrittenRecords
+mod TestScheme

@@ -2,7 +2,7 @@
 use Rattle.std.specs.Prelude.{◌≡◌, ◌*◌, Option, None, List, [], length, replicate, codes}
 use Rattle.std.proofs.Common.{refl, ◌∙◌}
 use Rattle.np_frac.specs.Ratio.{Ratio}
-use Rattle.np_model.specs.declared.plan.Entry.{Entry}
+use Rattle.np_model.specs.declared.log.Entry.{Entry}
 use Rattle.certificates.specs.Claims.{Outline, claims_of}
 use Rattle.certificates.proofs.Found.{amounts-none}
 

@@ -1,13 +1,12 @@
 -- Records stand for at most one plan.
-use Rattle.std.specs.Prelude.{◌≡◌, ℕ, Some, List}
+use Rattle.std.specs.Prelude.{◌≡◌, ℕ, Some, List, Option}
 use Rattle.std.proofs.Common.{refl, sym, ap, ◌∙◌}
 use Rattle.np_model.specs.declared.scheme.Scheme.{Scheme}
 use Rattle.np_model.specs.declared.plan.Plan.{Plan}
 use Rattle.np_model.specs.declared.plan.Verdict.{Verdict}
-use Rattle.np_model.specs.declared.plan.Overflow.{Overflow}
-use Rattle.np_model.specs.declared.plan.Entry.{Entry}
+use Rattle.np_model.specs.declared.rows.Overflow.{Overflow}
+use Rattle.np_model.specs.declared.log.Entry.{Entry}
 use Rattle.np_frac.specs.Ratio.{Ratio}
-use Rattle.std.specs.Prelude.{Option}
 use Rattle.certificates.specs.Claims.{Claims, claims_of, outline_of}
 use Rattle.certificates.specs.Grammar.{IsMadeOf, IsPlanOf, body_of, claimed_amount, claimed_flows, claimed_prices, claimed_ray, claimed_arc, claimed_overflow}
 

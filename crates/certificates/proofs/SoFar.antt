@@ -13,7 +13,8 @@ use Rattle.certificates.specs.declared.refused.PlanRefused.TheVariants as refuse
 use Rattle.certificates.specs.Fields.{fields_fault}
 use Rattle.certificates.specs.Claims.{Outline, Claims, claims_of}
 use Rattle.certificates.specs.Faults.{record_fault, end_fault, is_complete}
-use Rattle.certificates.specs.Grammar.{is_end, is_header, verdict_in, row_at, body_before, body_fault, fault_at}
+use Rattle.certificates.specs.Grammar.{is_end, is_header, verdict_in, body_fault, fault_at}
+use Rattle.np_records.specs.Rows.{row_at, body_before}
 use Rattle.certificates.specs.Steps.Claims.{IsOutline, HasAmountPlaces, with_record}
 use Rattle.certificates.specs.Steps.Texts.{IsHeadRead, IsTextRead, IsWholeRead, IsRowTaken, RefusesAt}
 use Rattle.certificates.proofs.Found.{amounts-length}

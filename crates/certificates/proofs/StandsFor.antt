@@ -9,10 +9,12 @@ use Rattle.np_records.proofs.FaultFacts.{or-first, or-rest, unless-none}
 use Rattle.np_model.specs.declared.plan.Verdict.{Verdict}
 use Rattle.np_model.specs.declared.scheme.Scheme.{Scheme}
 use Rattle.certificates.specs.declared.refused.PlanCode.TheVariants as code
-use Rattle.certificates.specs.Claims.{Outline, Claims, claims_of, outline_of, found}
+use Rattle.certificates.specs.Claims.{Outline, Claims, claims_of, outline_of}
+use Rattle.np_records.specs.Faults.{first_place, found}
 use Rattle.certificates.specs.Faults.{record_fault, end_fault}
-use Rattle.certificates.specs.Grammar.{is_end, is_header, verdict_in, body_before, fault_at, plan_fault, IsMadeOf}
-use Rattle.certificates.specs.ReadBack.{StandsForAPlan}
+use Rattle.certificates.specs.Grammar.{numbered, is_end, is_header, verdict_in, fault_at, plan_fault, IsMadeOf}
+use Rattle.np_records.specs.Rows.{body_before}
+use Rattle.certificates.specs.Reading.{StandsForAPlan}
 use Rattle.certificates.specs.Steps.Claims.{IsOutline, with_record}
 use Rattle.certificates.specs.Steps.Texts.{IsHeadRead, IsTextRead, IsWholeRead}
 use Rattle.certificates.proofs.OnePlan.{plan_with}
@@ -42,8 +44,8 @@ HasNoFault o rows = (i : ℕ) → i ≤ length rows → fault_at o rows i ≡ No
 no-fault-at : (skip : ℕ) (o : Outline) (rows : List (List (List ℕ))) → plan_fault skip o rows ≡ None → HasNoFault o rows
 no-fault-at skip o rows h i l =
     let z : 0 + i ≡ i = omega arith in
-    map-none (λ c. (skip + i + 1, c)) (fault_at o rows i)
-    (rw z at (found-none (λ place. option_map (λ c. (skip + place + 1, c)) (fault_at o rows place)) 0 (length rows + 1) h i (omega arith)))
+    let first = map-none (numbered skip) (first_place (fault_at o rows) (length rows + 1)) h in
+    map-none (λ c. (i, c)) (fault_at o rows i) (rw z at (found-none (λ place. option_map (λ c. (place, c)) (fault_at o rows place)) 0 (length rows + 1) first i (omega arith)))
 
 -- ---- the records are read to the end
 

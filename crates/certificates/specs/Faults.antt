@@ -1,18 +1,18 @@
 -- What is wrong with a record of a plan text, where these are the claims of those before it. The tests are made in the order in which
 -- they stand here, and the first that fails tells the fault.
-use Rattle.std.specs.Prelude.{ℕ, ◌+◌, ◌==◌, ◌&&◌, nat_le, not, Bool, true, Option, Some, None, is_some, unwrap_or, List, [], ◌∷◌, length, codes, slice_get, if◌then◌else◌}
+use Rattle.std.specs.Prelude.{ℕ, ◌+◌, ◌==◌, ◌&&◌, ◌||◌, nat_le, not, Bool, Option, Some, None, is_some, unwrap_or, List, [], ◌∷◌, length, codes, slice_get, if◌then◌else◌}
 use Rattle.std.specs.Option.{option_or}
 use Rattle.np_frac.specs.Ratio.{Ratio}
-use Rattle.np_frac.specs.Text.{number}
+use Rattle.np_frac.specs.Text.{number, is_number}
 use Rattle.np_records.specs.Records.{field_of}
 use Rattle.np_model.specs.declared.plan.Verdict.{Verdict}
-use Rattle.np_model.specs.declared.plan.Verdict.TheVariants.{Optimal, Infeasible, Unbounded, Budget, Overflow}
-use Rattle.net_csv.specs.Fields.{is_number, place_in}
-use Rattle.net_csv.specs.Network.{is_kind}
+use Rattle.np_model.specs.Scheme.Verdicts.{parts_of}
+use Rattle.np_records.specs.Names.{place_in}
+use Rattle.np_records.specs.Rows.{is_kind, whole_in}
 use Rattle.certificates.specs.declared.refused.PlanCode.{PlanCode}
 use Rattle.certificates.specs.declared.refused.PlanCode.TheVariants as code
 use Rattle.np_records.specs.Faults.{unless, first_fault}
-use Rattle.certificates.specs.Fields.{fields_fault, used_fault, period_fault, given_fault, fraction_in, whole_in, overflow_in, entry_in}
+use Rattle.certificates.specs.Fields.{fields_fault, used_fault, period_fault, given_fault, fraction_in, overflow_in, entry_in}
 use Rattle.certificates.specs.Claims.{Outline, Claims, place_with}
 
 -- a record that may stand once, with so many fields, which gives something
@@ -78,13 +78,15 @@ record_fault o claims r =
     else if is_kind r (codes "pivot") then pivot_fault (length claims.entries) r
     else Some code.Unknown
 
--- what a verdict cannot do without is claimed
+-- a part that is asked for is claimed
+abbrev pub is_there : {X : Type 0} → Bool → Option X → Bool
+is_there asked part = not asked || is_some part
+
+-- what a verdict cannot do without is claimed: of its parts the cost, the gap, the arc or the operation
 abbrev pub is_complete : Verdict → Claims → Bool
-is_complete Optimal claims = is_some claims.cost
-is_complete Infeasible claims = is_some claims.gap
-is_complete Unbounded claims = true
-is_complete Budget claims = is_some claims.arc
-is_complete Overflow claims = is_some claims.overflow
+is_complete verdict claims =
+    let parts = parts_of verdict in
+    is_there parts.cost claims.cost && is_there parts.gap claims.gap && is_there parts.arc claims.arc && is_there parts.overflow claims.overflow
 
 -- `end`
 abbrev pub end_fault : Verdict → Claims → List (List ℕ) → Option PlanCode

@@ -1,22 +1,22 @@
 -- The plan texts, over the list of their records: the first fault, or the plan.
-use Rattle.std.specs.Prelude.{◌≡◌, ℕ, ◌+◌, ◌-◌, ◌==◌, ◌&&◌, nat_lt, not, Bool, Option, Some, None, is_some, option_map, unwrap_or, List, [], length, map, take, drop, codes, slice_get, if◌then◌else◌}
-use Rattle.std.specs.List.{range_with_len, list_any}
+use Rattle.std.specs.Prelude.{◌≡◌, ℕ, ◌+◌, ◌-◌, ◌==◌, ◌&&◌, nat_lt, not, Bool, Option, Some, None, is_some, option_map, unwrap_or, List, [], length, map, codes, slice_get, if◌then◌else◌}
+use Rattle.std.specs.List.{list_any}
 use Rattle.std.specs.Option.{option_and_then}
 use Rattle.std.specs.Str.{bytes_eq}
 use Rattle.np_frac.specs.Ratio.{Ratio, zero_ratio}
 use Rattle.np_records.specs.Records.{field_of}
 use Rattle.np_model.specs.declared.scheme.Scheme.{Scheme}
 use Rattle.np_model.specs.declared.plan.Verdict.{Verdict}
-use Rattle.np_model.specs.declared.plan.Verdict.TheVariants as verdict
-use Rattle.np_model.specs.declared.plan.Overflow.{Overflow}
+use Rattle.np_model.specs.Scheme.Verdicts.{parts_of}
+use Rattle.np_model.specs.declared.rows.Overflow.{Overflow}
 use Rattle.np_model.specs.declared.plan.Plan.{Plan}
-use Rattle.np_model.specs.Schemes.{staged}
-use Rattle.net_csv.specs.Network.{is_kind}
+use Rattle.np_model.specs.Scheme.Plans.{staged}
+use Rattle.np_records.specs.Rows.{is_kind, row_at, body_before}
 use Rattle.certificates.specs.declared.refused.PlanCode.{PlanCode}
 use Rattle.certificates.specs.declared.refused.PlanCode.TheVariants as code
 use Rattle.certificates.specs.Words.{verdict_of}
-use Rattle.np_records.specs.Faults.{unless}
-use Rattle.certificates.specs.Claims.{Outline, Claims, outline_of, found, place_with, claims_of}
+use Rattle.np_records.specs.Faults.{first_place, unless}
+use Rattle.certificates.specs.Claims.{Outline, Claims, outline_of, place_with, claims_of}
 use Rattle.certificates.specs.Faults.{record_fault, end_fault}
 
 -- ---- the records at the head
@@ -32,14 +32,6 @@ verdict_in r = if (length r == 2) && is_kind r (codes "verdict") then verdict_of
 
 abbrev pub is_end : List (List ℕ) → Bool
 is_end r = is_kind r (codes "end")
-
--- the record at a place, from 0; no fields where there is none
-abbrev pub row_at : List (List (List ℕ)) → ℕ → List (List ℕ)
-row_at rows place = unwrap_or (slice_get rows place) []
-
--- the records between the head and the one at a place
-abbrev pub body_before : List (List (List ℕ)) → ℕ → List (List (List ℕ))
-body_before rows place = drop 2 (take place rows)
 
 -- a record of the body, where these stand before it
 abbrev pub body_fault : Outline → Option Verdict → List (List (List ℕ)) → List (List ℕ) → Option PlanCode
@@ -57,9 +49,13 @@ fault_at o rows place =
     else if place == 1 then unless (is_some (verdict_in r)) code.Header
     else body_fault o (verdict_in (row_at rows 1)) (body_before rows place) r
 
+-- a place, from 0, is that of a record with this number behind so many others
+abbrev pub numbered : ℕ → ℕ × PlanCode → ℕ × PlanCode
+numbered skip (place, c) = (skip + place + 1, c)
+
 -- the number of the record with the first fault, where so many stand before the plan text, and the fault; None where there is none
 abbrev pub plan_fault : ℕ → Outline → List (List (List ℕ)) → Option (ℕ × PlanCode)
-plan_fault skip o rows = found (λ place. option_map (λ c. (skip + place + 1, c)) (fault_at o rows place)) (range_with_len 0 (length rows + 1))
+plan_fault skip o rows = option_map (numbered skip) (first_place (fault_at o rows) (length rows + 1))
 
 -- ---- the plan
 
@@ -78,50 +74,27 @@ staged_amounts scheme given = map (λ arc. amount_at given (place_with (length s
 abbrev pub node_amounts : List (Option Ratio) → List Ratio
 node_amounts given = map (λ amount. unwrap_or amount zero_ratio) given
 
--- the parts that a verdict uses
+-- ---- the parts that a verdict prints; of the others its plan has nothing
+
 abbrev pub claimed_amount : Verdict → Claims → Option Ratio
-claimed_amount verdict.Optimal claims = claims.cost
-claimed_amount verdict.Infeasible claims = claims.gap
-claimed_amount verdict.Unbounded claims = None
-claimed_amount verdict.Budget claims = None
-claimed_amount verdict.Overflow claims = None
+claimed_amount verdict claims = if (parts_of verdict).cost then claims.cost else if (parts_of verdict).gap then claims.gap else None
 
 abbrev pub claimed_flows : Verdict → Scheme → Claims → List Ratio
-claimed_flows verdict.Optimal scheme claims = staged_amounts scheme claims.flows
-claimed_flows verdict.Infeasible scheme claims = []
-claimed_flows verdict.Unbounded scheme claims = staged_amounts scheme claims.flows
-claimed_flows verdict.Budget scheme claims = []
-claimed_flows verdict.Overflow scheme claims = []
+claimed_flows verdict scheme claims = if (parts_of verdict).flows then staged_amounts scheme claims.flows else []
 
 abbrev pub claimed_prices : Verdict → Claims → List Ratio
-claimed_prices verdict.Optimal claims = node_amounts claims.prices
-claimed_prices verdict.Infeasible claims = node_amounts claims.prices
-claimed_prices verdict.Unbounded claims = []
-claimed_prices verdict.Budget claims = []
-claimed_prices verdict.Overflow claims = []
+claimed_prices verdict claims = if (parts_of verdict).prices then node_amounts claims.prices else []
 
 abbrev pub claimed_ray : Verdict → Scheme → Claims → List Ratio
-claimed_ray verdict.Optimal scheme claims = []
-claimed_ray verdict.Infeasible scheme claims = []
-claimed_ray verdict.Unbounded scheme claims = staged_amounts scheme claims.ray
-claimed_ray verdict.Budget scheme claims = []
-claimed_ray verdict.Overflow scheme claims = []
+claimed_ray verdict scheme claims = if (parts_of verdict).ray then staged_amounts scheme claims.ray else []
 
 abbrev pub claimed_arc : Verdict → Claims → Option ℕ
-claimed_arc verdict.Optimal claims = None
-claimed_arc verdict.Infeasible claims = None
-claimed_arc verdict.Unbounded claims = None
-claimed_arc verdict.Budget claims = claims.arc
-claimed_arc verdict.Overflow claims = None
+claimed_arc verdict claims = if (parts_of verdict).arc then claims.arc else None
 
 abbrev pub claimed_overflow : Verdict → Claims → Option Overflow
-claimed_overflow verdict.Optimal claims = None
-claimed_overflow verdict.Infeasible claims = None
-claimed_overflow verdict.Unbounded claims = None
-claimed_overflow verdict.Budget claims = None
-claimed_overflow verdict.Overflow claims = claims.overflow
+claimed_overflow verdict claims = if (parts_of verdict).overflow then claims.overflow else None
 
--- the plan with these claims: of the other parts it has nothing
+-- the plan with these claims
 pub record IsMadeOf (scheme : Scheme) (claims : Claims) (plan : Plan) : Type 0 where
   pub amount : plan.amount ≡ claimed_amount plan.verdict claims
   pub flows : plan.flows ≡ claimed_flows plan.verdict scheme claims

@@ -4,7 +4,7 @@ ghost use Rattle.std.specs.Prelude.{◌≡◌, ◌+◌, ◌-◌, ◌*◌, ◌++�
 ghost use Rattle.csv.specs.Records.{fields_of};
 ghost use Rattle.np_frac.specs.Ratio.{zero_ratio};
 ghost use Rattle.np_records.specs.Records.{field_of};
-ghost use Rattle.net_csv.specs.Fields.{place_in};
+ghost use Rattle.np_records.specs.Names.{place_in};
 ghost use Rattle.np_records.specs.Faults.{Reads, first_fault};
 ghost use Rattle.certificates.specs.Fields.{fields_fault, used_fault, period_fault};
 ghost use Rattle.certificates.specs.Faults.{put_fault, place_named};
@@ -12,8 +12,7 @@ ghost use Rattle.certificates.specs.Grammar.{amount_at, staged_amounts, node_amo
 ghost use Rattle.certificates.specs.Steps.Amounts.{amount_in, period_amounts};
 ghost use Rattle.certificates.specs.Steps.Claims.{Becomes, with_amount};
 
-use crate::fields::{fields, fraction, is_given, is_new, period, used_name};
-use crate::index::periods_of;
+use crate::fields::{fields, fraction, is_given, is_new, period_up_to, used_name};
 use crate::refused::PlanCode;
 use np_frac::{Frac, Memory};
 use np_model::{FlowKind, Fracs, Scheme};
@@ -32,7 +31,7 @@ fn place(names: &NameTable, number: usize, last: u32, row: &ByteRecord) -> Resul
     ensures value { Reads result (period_fault last (field_of (fields_of row.now) 2)) (place_named names.now (fields_of row.now)) }
     ensures within { IfOk result (λ place. place < last * length names.now) }
 {
-    let period = period(last, field(row, 2))? as usize;
+    let period = period_up_to(last, field(row, 2))? as usize;
     Ok((period - 1) * names.len() + number)
 }
 
@@ -117,7 +116,7 @@ fn amount_in(
     requires number { number < length scheme.now.flows }
     ensures { result ≡ amount_in given.now scheme.now period number kind.now }
 {
-    if periods_of(scheme.periods, kind) < period {
+    if kind.periods(scheme.periods) < period {
         return None;
     }
     let count = scheme.flows.as_slice().len();

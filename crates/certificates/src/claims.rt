@@ -3,19 +3,20 @@
 ghost use Rattle.std.specs.Prelude.{◌≡◌, ◌++◌, ◌∷◌, ◌≤◌, [], IfOk, OnOk, length};
 ghost use Rattle.csv.specs.Records.{fields_of};
 ghost use Rattle.np_records.specs.Records.{field_of};
-ghost use Rattle.certificates.specs.Fields.{fraction_in, whole_in, overflow_in, entry_in};
+ghost use Rattle.certificates.specs.Fields.{fraction_in, overflow_in, entry_in};
+ghost use Rattle.np_records.specs.Rows.{whole_in};
 ghost use Rattle.certificates.specs.Claims.{claims_of};
-ghost use Rattle.certificates.specs.Faults.{once_fault, amount_fault, pivot_fault, is_next, last_for, record_fault, is_complete};
+ghost use Rattle.certificates.specs.Faults.{once_fault, amount_fault, pivot_fault, is_next, last_for, record_fault, is_there, is_complete};
 ghost use Rattle.std.specs.Option.{option_to_list};
 ghost use Rattle.certificates.specs.Steps.Claims.{IsOutline, HasAmountPlaces, Becomes, ClaimsBecome, with_amount, with_record};
 
 use crate::amounts::{named, no_amounts, put};
-use crate::fields::{entry, fields, fraction, is_given, is_kind, is_new, overflow, whole};
+use crate::fields::{entry, fields, fraction, is_given, is_new, overflow};
 use crate::index::Index;
 use crate::refused::{PlanCode, Stop};
 use np_frac::{Frac, Memory};
 use np_model::{Entry, Overflow, Verdict};
-use np_records::{ByteRecord, field};
+use np_records::{ByteRecord, field, is_kind, whole};
 use std::alloc::Global;
 use std::marker::Model;
 
@@ -76,6 +77,13 @@ fn put_once<T: Drop>(
     is_new(part.is_some())?;
     *part = given;
     Ok(())
+}
+
+// A part is claimed, if it is asked for.
+fn is_there<T>(asked: bool, part: &Option<T>) -> bool
+    ensures { result ≡ is_there asked part.now }
+{
+    !asked || part.is_some()
 }
 
 impl Draft {
@@ -249,13 +257,11 @@ impl Draft {
     pub(crate) fn is_complete(&self, verdict: Verdict) -> bool
         ensures { result ≡ is_complete verdict self.now }
     {
-        match verdict {
-            Verdict::Optimal => self.cost.is_some(),
-            Verdict::Infeasible => self.gap.is_some(),
-            Verdict::Unbounded => true,
-            Verdict::Budget => self.arc.is_some(),
-            Verdict::Overflow => self.overflow.is_some(),
-        }
+        let parts = verdict.parts();
+        is_there(parts.cost, &self.cost)
+            && is_there(parts.gap, &self.gap)
+            && is_there(parts.arc, &self.arc)
+            && is_there(parts.overflow, &self.overflow)
     }
 }
 

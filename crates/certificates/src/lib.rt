@@ -9,12 +9,12 @@ pub mod laws;
 mod plan;
 mod reading;
 mod refused;
+mod rows;
 mod words;
 mod writing;
 
 pub use reading::read_plan;
 pub use refused::{PlanCode, PlanRefused};
-pub use words::{check_row_word, op_word};
 pub use writing::plan_text;
 
 #[cfg(test)]

@@ -14,11 +14,11 @@ impl Draft {
     fn claimed_amount(&self, verdict: Verdict) -> Option<Frac>
         ensures { result ≡ claimed_amount verdict self.now }
     {
-        match verdict {
-            Verdict::Optimal => self.cost,
-            Verdict::Infeasible => self.gap,
-            _ => None,
+        let parts = verdict.parts();
+        if parts.cost {
+            return self.cost;
         }
+        if parts.gap { self.gap } else { None }
     }
 
     // The flows of a verdict.
@@ -30,50 +30,47 @@ impl Draft {
     ) -> Result<Fracs, Memory>
         ensures { IfOk result (λ flows. flows ≡ claimed_flows verdict scheme.now self.now) }
     {
-        match verdict {
-            Verdict::Optimal | Verdict::Unbounded => staged_amounts(alloc, scheme, &self.flows),
-            _ => Ok(no_fracs(alloc)),
+        if !verdict.parts().flows {
+            return Ok(no_fracs(alloc));
         }
+        staged_amounts(alloc, scheme, &self.flows)
     }
 
     // The prices of a verdict.
     fn claimed_prices(&self, alloc: Global, verdict: Verdict) -> Result<Fracs, Memory>
         ensures { IfOk result (λ prices. prices ≡ claimed_prices verdict self.now) }
     {
-        match verdict {
-            Verdict::Optimal | Verdict::Infeasible => node_amounts(alloc, &self.prices),
-            _ => Ok(no_fracs(alloc)),
+        if !verdict.parts().prices {
+            return Ok(no_fracs(alloc));
         }
+        node_amounts(alloc, &self.prices)
     }
 
     // The ray of a verdict.
     fn claimed_ray(&self, alloc: Global, verdict: Verdict, scheme: &Scheme) -> Result<Fracs, Memory>
         ensures { IfOk result (λ ray. ray ≡ claimed_ray verdict scheme.now self.now) }
     {
-        match verdict {
-            Verdict::Unbounded => staged_amounts(alloc, scheme, &self.ray),
-            _ => Ok(no_fracs(alloc)),
+        if !verdict.parts().ray {
+            return Ok(no_fracs(alloc));
         }
+        staged_amounts(alloc, scheme, &self.ray)
     }
 
     // The eligible arc of a verdict.
     fn claimed_arc(&self, verdict: Verdict) -> Option<u32>
         ensures { result ≡ claimed_arc verdict self.now }
     {
-        match verdict {
-            Verdict::Budget => self.arc,
-            _ => None,
-        }
+        if verdict.parts().arc { self.arc } else { None }
     }
 
     // The operation of a verdict that overflowed.
     fn claimed_overflow(&self, verdict: Verdict) -> Option<Overflow>
         ensures { result ≡ claimed_overflow verdict self.now }
     {
-        match verdict {
-            Verdict::Overflow => self.overflow,
-            _ => None,
+        if !verdict.parts().overflow {
+            return None;
         }
+        self.overflow
     }
 
     /// The plan of what was taken.

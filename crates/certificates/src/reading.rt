@@ -13,13 +13,13 @@ ghost use Rattle.certificates.specs.Steps.Claims.{IsOutline, HasAmountPlaces};
 ghost use Rattle.certificates.specs.Reading.{ReadsPlan};
 
 use crate::claims::Draft;
-use crate::fields::{fields, is_kind};
+use crate::fields::fields;
 use crate::index::Index;
 use crate::refused::{PlanCode, PlanRefused, Stop};
 use crate::words::verdict_of;
 use np_frac::Memory;
 use np_model::{Plan, Scheme, Verdict};
-use np_records::{ByteRecord, Records, field};
+use np_records::{ByteRecord, Records, field, is_kind};
 use std::alloc::Global;
 
 // Whether the record is the first one of a plan text.
@@ -179,8 +179,7 @@ fn read_whole(
 
 /// Reads the plan text that stands behind so many records: the plan, for a scheme.
 ///
-/// There are at least so many records, as behind a network text as many as `net_csv::read_scheme` answered
-/// (`net_csv::laws::records_are_there`), and fewer than 2^32 bytes.
+/// There are at least so many records, as behind a network text those of that text, and fewer than 2^32 bytes.
 ///
 /// Where the records are no plan text, their first fault is answered: the number of its record among all records of the
 /// bytes, from 1, and what is wrong there. Of the parts that the verdict does not use the plan has nothing. `Memory` comes

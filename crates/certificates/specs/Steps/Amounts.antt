@@ -3,7 +3,7 @@ use Rattle.std.specs.Prelude.{nat_lt, â„•, Option, Some, None, List, length, ifâ
 use Rattle.np_frac.specs.Ratio.{Ratio}
 use Rattle.np_model.specs.declared.scheme.FlowKind.{FlowKind}
 use Rattle.np_model.specs.declared.scheme.Scheme.{Scheme}
-use Rattle.np_model.specs.Valid.{periods_of}
+use Rattle.np_model.specs.Scheme.Kinds.{periods_of}
 use Rattle.certificates.specs.Claims.{place_with}
 use Rattle.certificates.specs.Grammar.{amount_at}
 use Rattle.std.specs.List.{filter_map, enumerate_from}

@@ -2,11 +2,11 @@
 use Rattle.std.specs.Prelude.{◌≡◌, ℕ, ◌*◌, ◌^◌, ◌<◌, ◌≤◌, ⊤, Option, Some, None, Result, Ok, Err, List, ◌++◌, length, set, codes, if◌then◌else◌}
 use Rattle.np_frac.specs.Ratio.{Ratio}
 use Rattle.np_records.specs.Records.{field_of}
-use Rattle.net_csv.specs.Network.{is_kind}
+use Rattle.np_records.specs.Rows.{is_kind, whole_in}
 use Rattle.certificates.specs.declared.refused.PlanCode.{PlanCode}
 use Rattle.certificates.specs.declared.refused.Stop.{Stop}
 use Rattle.certificates.specs.declared.refused.Stop.TheVariants as stop
-use Rattle.certificates.specs.Fields.{fraction_in, whole_in, overflow_in, entry_in}
+use Rattle.certificates.specs.Fields.{fraction_in, overflow_in, entry_in}
 use Rattle.certificates.specs.Claims.{Outline, Claims}
 use Rattle.certificates.specs.Faults.{place_named}
 use Rattle.std.specs.Option.{option_to_list}

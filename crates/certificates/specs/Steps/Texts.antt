@@ -6,7 +6,8 @@ use Rattle.certificates.specs.declared.refused.PlanRefused.TheVariants as refuse
 use Rattle.certificates.specs.Claims.{Outline, Claims, claims_of}
 use Rattle.certificates.specs.Faults.{record_fault, end_fault, is_complete}
 use Rattle.certificates.specs.Steps.Claims.{with_record}
-use Rattle.certificates.specs.Grammar.{is_header, verdict_in, is_end, body_before, body_of, fault_at, plan_fault, row_at}
+use Rattle.certificates.specs.Grammar.{is_header, verdict_in, is_end, body_of, fault_at, plan_fault}
+use Rattle.np_records.specs.Rows.{body_before, row_at}
 use Rattle.std.specs.List.{list_any}
 
 -- what was found at a record with this number: whether it is `end`, or the fault
