@@ -16,12 +16,11 @@ use Rattle.std.proofs.lemmas.Nat.Gcd.{dvd_of_mod-eq-zero}
 use Rattle.std.proofs.lemmas.Str.Parse.{digit_from_value}
 use borrow.Author.Differences.{neg_is}
 use Rattle.np_frac.specs.Ratio.{Ratio, over_same}
-use Rattle.np_frac.specs.Signs.{from_cross}
+use Rattle.np_frac.specs.Steps.Signs.{from_cross}
 use Rattle.np_frac.specs.Text.{point, stroke, is_mark, printed, unsigned_part, signed, before_mark, from_mark, IsNumber, number}
-use Rattle.np_frac.specs.Amount.{IsAmount, IsAmountEnd, amount_of, amount_upper, amount_lower, is_short, is_decimal, is_amount}
-use Rattle.net_csv.specs.Fields.{is_amount_text}
+use Rattle.np_frac.specs.Amount.{IsAmount, IsAmountEnd, amount_of, amount_upper, amount_lower, is_short, is_decimal, is_amount, is_amount_text}
 use Rattle.net_csv.specs.AmountText.{minus_sign, billionths, nine_digits, decimal_form, amount_text}
-use Rattle.net_csv.proofs.FieldFacts.{amount-is, and-left, and-right}
+use Rattle.np_frac.proofs.TextTests.{amount-is, and-left, and-right}
 
 -- ---- nine digits
 

@@ -1,31 +1,30 @@
 -- The records that were read are there.
-use Rattle.std.specs.Prelude.{◌≡◌, ℕ, ◌+◌, ◌<◌, ◌≤◌, nat_lt, Option, Some, None, Ok, Err, Result, List, length}
-use Rattle.std.specs.Option.{option_map_or}
-use Rattle.std.proofs.Common.{refl, inl, inr, arith}
-use Rattle.std.proofs.lemmas.Bool.{cases_Bool}
+use Rattle.std.specs.Prelude.{◌≡◌, ℕ, ◌+◌, ◌≤◌, nat_lt, true, false, None, Ok, List, [], ◌∷◌, length, take, drop}
+use Rattle.std.specs.List.{list_any, before_first}
+use Rattle.std.proofs.Common.{arith}
 use Rattle.std.proofs.lemmas.Bool.Decides.{nat_tests}
-use Rattle.net_csv.specs.declared.refused.Code.{Code}
+use Rattle.std.proofs.Math.Seq.{take-length}
+use Rattle.np_records.proofs.FaultFacts.{unless-none}
+use Rattle.net_csv.specs.declared.refused.Code.TheVariants as code
 use Rattle.net_csv.specs.declared.refused.Tail.{Tail}
-use Rattle.net_csv.specs.Grammar.{read_records, stop_of, fault_at, tail_fault}
+use Rattle.net_csv.specs.Grammar.{read_records, fault_at, is_end}
+use Rattle.net_csv.proofs.BeforeFirst.{before_first-shorter}
+use Rattle.net_csv.proofs.FirstPlaces.{right-at}
 
-abbrev answer : Option Code → Option Code → ℕ → Result ℕ (ℕ × Code)
-answer fault tail stop = option_map_or (λ c. Err (stop + 1, c)) fault (option_map_or (λ c. Err (stop + 2, c)) tail (Ok (stop + 1)))
+-- behind the last record there is no fault where an `end` was read
+ended : (tail : Tail) (rows : List (List (List ℕ))) → fault_at tail rows (length rows) ≡ None → list_any is_end (drop 2 rows) ≡ true
+ended tail rows h =
+    let out : nat_lt (length rows) (length rows) ≡ false = grind (arith, nat_tests) in
+    let all : take (length rows) rows ≡ rows = take-length rows in
+    unless-none _ code.NoEnd (rw (out, all) at h)
 
-no-fault : (fault tail : Option Code) (stop count : ℕ) → answer fault tail stop ≡ Ok count → (fault ≡ None) × (stop + 1 ≡ count)
-no-fault None None stop count h = (refl, cc h)
-no-fault None (Some c) stop count h = absurd (cc h)
-no-fault (Some c) tail stop count h = absurd (cc h)
-
-there : (rows : List (List (List ℕ))) (stop : ℕ) → fault_at rows stop ≡ None → stop < length rows
-there rows stop h = elim (cases_Bool (nat_lt stop (length rows))) [
-  | inl t ↦ grind (arith, nat_tests)
-  | inr f ↦ absurd (cc (rw f at h))
-]
+two-and : (rows : List (List (List ℕ))) → list_any is_end (drop 2 rows) ≡ true → length (before_first is_end (drop 2 rows)) + 3 ≤ length rows
+two-and [] h = absurd (cc h)
+two-and (a ∷ []) h = absurd (cc h)
+two-and (a ∷ b ∷ rest) h = let less = before_first-shorter is_end rest h in omega arith
 
 -- the number of records that were read is at most that of all
-pub count-within : (t : Tail) (rows : List (List (List ℕ))) (count : ℕ) → read_records t rows ≡ Ok count → count ≤ length rows
-count-within t rows count h =
-    let parts = no-fault (fault_at rows (stop_of rows)) (tail_fault t rows (stop_of rows + 1)) (stop_of rows) count h in
-    let within = there rows (stop_of rows) parts.0 in
-    let count_is = parts.1 in
-    omega arith
+pub count-within : (tail : Tail) (rows : List (List (List ℕ))) (count : ℕ) → read_records tail rows ≡ Ok count → count ≤ length rows
+count-within tail rows count told =
+    let last = right-at tail rows count (length rows) told (omega arith) in
+    rw last.1 (two-and rows (ended tail rows last.0))

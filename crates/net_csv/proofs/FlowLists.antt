@@ -8,7 +8,7 @@ use Rattle.std.proofs.lemmas.List.Elements.{filter_map-append}
 use Rattle.np_model.specs.declared.scheme.Band.{Band}
 use Rattle.np_model.specs.declared.scheme.Flow.{Flow}
 use Rattle.net_csv.specs.Network.{bands_at, with_bands}
-use Rattle.net_csv.specs.Tables.{banded}
+use Rattle.net_csv.specs.Steps.Tables.{banded}
 
 bands-append : (ps qs : List (ℕ × Band)) (k : ℕ) → bands_at (ps ++ qs) k ≡ bands_at ps k ++ bands_at qs k
 bands-append ps qs k = filter_map-append _ ps qs

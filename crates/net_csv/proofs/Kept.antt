@@ -10,11 +10,11 @@ use Rattle.std.proofs.lemmas.List.{length_push, map-append}
 use Rattle.std.proofs.lemmas.List.Elements.{All-nil, All-head, All-tail, All-push, All-set, All-weaker}
 use Rattle.std.proofs.lemmas.List.Folds.{list_all-append}
 use Rattle.np_frac.specs.Ratio.{Ratio, zero_ratio, is_below, ◌≤ᵣ◌, ◌<ᵣ◌}
-use Rattle.np_frac.specs.Text.{number}
+use Rattle.np_frac.specs.Text.{number, is_number}
 use Rattle.np_frac.specs.Amount.{amount_of, is_amount}
 use Rattle.np_frac.proofs.Amounts.{value_is_amount}
 use Rattle.np_frac.proofs.RatioLaws.{is_below_true, is_below_false}
-use Rattle.np_records.specs.Names.{place_of}
+use Rattle.np_records.specs.Names.{place_of, place_in}
 use Rattle.np_records.specs.Records.{field_of}
 use Rattle.np_model.specs.declared.arc.Upper.{Upper}
 use Rattle.np_model.specs.declared.arc.Upper.TheVariants.{Finite, Infinite}
@@ -22,17 +22,20 @@ use Rattle.np_model.specs.declared.scheme.Band.{Band}
 use Rattle.np_model.specs.declared.scheme.Flow.{Flow}
 use Rattle.np_model.specs.declared.scheme.FlowKind.{FlowKind}
 use Rattle.np_model.specs.declared.scheme.FlowKind.TheVariants.{Link, Hold, Drain, Feed}
-use Rattle.np_model.specs.Network.{IsAtMost}
-use Rattle.np_model.specs.Stages.{IsUnder, IsConvexFrom}
-use Rattle.np_model.specs.Valid.{AreNames, IsSound, JoinsNodes, HasGain, AreReached, is_name, is_amount_or_infinite, has_amount_gain}
+use Rattle.np_model.specs.Network.Arcs.{IsAtMost, IsUnder, is_at_most, is_under, is_finite}
+use Rattle.np_model.specs.Scheme.Segments.{IsConvexFrom, AreReached}
+use Rattle.np_model.specs.Scheme.Names.{AreNames, is_name}
+use Rattle.np_model.specs.Scheme.Valid.{IsSound, is_amount_or_infinite, has_amount_gain}
+use Rattle.np_model.specs.Scheme.Kinds.{JoinsNodes, HasGain}
 use Rattle.net_csv.specs.declared.given.Given.{Given}
 use Rattle.net_csv.specs.declared.refused.Code.TheVariants as code
 use Rattle.np_records.specs.Faults.{unless}
-use Rattle.net_csv.specs.Fields.{fields_fault, period_fault, new_fault, used_fault, amount_fault, is_all, is_period, period_of, upper_fault, gain_fault, upper_of, place_in, is_infinite, is_number}
-use Rattle.net_csv.specs.Network.{is_kind, is_flow, kind_in, bounds_place}
-use Rattle.net_csv.specs.Faults.{is_at_most, is_wide, is_finite, has_finite_end, present_slope, record_fault, kind_fault, flow_fields, numbers_fault, ends_fault, bounds_fault, head_fault, flow_fault, band_fault, band_of, piece_fault, node_fault, supply_fault, nodes_fault}
-use Rattle.net_csv.specs.Tables.{Tables, no_tables, AreKept, IsGiven, supply_of, with_record, with_node, with_supply, with_flow, with_piece, band_added, banded, plain_flow, numbers_of}
-use Rattle.net_csv.proofs.FieldFacts.{amount-reads}
+use Rattle.net_csv.specs.Fields.{fields_fault, period_fault, new_fault, used_fault, amount_fault, is_all, period_of, upper_fault, gain_fault, upper_of, is_infinite}
+use Rattle.np_records.specs.Rows.{is_period, is_kind}
+use Rattle.net_csv.specs.Network.{is_flow, kind_in, bounds_place}
+use Rattle.net_csv.specs.Faults.{has_finite_end, present_slope, record_fault, kind_fault, flow_fields, numbers_fault, ends_fault, bounds_fault, head_fault, flow_fault, band_fault, band_of, piece_fault, node_fault, supply_fault, nodes_fault}
+use Rattle.net_csv.specs.Steps.Tables.{Tables, no_tables, AreKept, IsGiven, supply_of, with_record, with_node, with_supply, with_flow, with_piece, band_added, banded, plain_flow, numbers_of}
+use Rattle.np_frac.proofs.TextTests.{amount-reads}
 use Rattle.np_records.proofs.FaultFacts.{or-first, or-rest, unless-none}
 use Rattle.net_csv.proofs.Fine.{used-some}
 use Rattle.net_csv.proofs.Steps.{there}
@@ -63,7 +66,7 @@ at-most : (x : Ratio) (u : Upper) → is_at_most x u ≡ true → IsAtMost x u
 at-most x (Finite u) h = is_below_false u x (not-true _ h)
 at-most x Infinite h = tt
 
-wide : (u : Upper) → is_wide u ≡ true → IsUnder zero_ratio u
+wide : (u : Upper) → is_under zero_ratio u ≡ true → IsUnder zero_ratio u
 wide (Finite u) h = is_below_true zero_ratio u h
 wide Infinite h = tt
 
@@ -174,9 +177,9 @@ band-sound : (n periods arcs : ℕ) (band : Band) (f : Flow) → IsSound n f →
     → IsSound n (banded f band)
 band-sound n periods arcs band f s amounts h =
     let wide_on = or-rest (unless (has_finite_end f) code.PieceAfterInfinite) _ h in
-    let slope_on = or-rest (unless (is_wide band.width) code.BadBounds) _ wide_on in
+    let slope_on = or-rest (unless (is_under zero_ratio band.width) code.BadBounds) _ wide_on in
     let finite : has_finite_end f ≡ true = unless-none _ _ (or-first (unless (has_finite_end f) code.PieceAfterInfinite) _ h) in
-    let width = unless-none _ _ (or-first (unless (is_wide band.width) code.BadBounds) _ wide_on) in
+    let width = unless-none _ _ (or-first (unless (is_under zero_ratio band.width) code.BadBounds) _ wide_on) in
     let slope = unless-none _ _ (or-first (unless (not (is_below band.slope (present_slope f))) code.NotConvex) _ slope_on) in
     let banded_ok = λ (b : Band). is_amount_or_infinite b.width && is_amount b.slope in
     let rest = and_parts (has_amount_gain f.kind && is_amount f.lower && is_amount_or_infinite f.upper && is_amount f.cost) (list_all banded_ok f.bands) s.amounts in

@@ -5,10 +5,11 @@ pub mod RowKinds
 mod FlowLists
 mod Steps
 mod Fine
-mod Stops
+mod BeforeFirst
+mod FirstPlaces
+mod HeadFacts
 mod Room
 mod SoFar
-mod HeadFacts
 mod Tails
 mod Kept
 mod SupplyFacts
@@ -26,3 +27,4 @@ mod OneScheme
 pub mod CountWithin
 mod WrittenTexts
 mod SmallScheme
+mod Stands

@@ -4,7 +4,7 @@ use Rattle.std.proofs.Common.{refl, sym, ap, ◌∙◌, subst}
 use Rattle.np_frac.specs.Ratio.{Ratio}
 use Rattle.np_model.specs.declared.scheme.Flow.{Flow}
 use Rattle.np_model.specs.declared.scheme.Scheme.{Scheme}
-use Rattle.np_model.specs.Valid.{IsScheme, IsScheme-prop}
+use Rattle.np_model.specs.Scheme.Valid.{IsScheme, IsScheme-prop}
 use Rattle.net_csv.specs.Grammar.{IsSchemeOf}
 
 -- all of a scheme but that it is valid

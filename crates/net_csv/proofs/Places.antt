@@ -6,9 +6,8 @@ use Rattle.std.specs.Str.{bytes_eq}
 use Rattle.std.proofs.Common.{refl, sym, ap, ◌∙◌, inl, inr, arith, add-one}
 use Rattle.std.proofs.lemmas.Bool.{cases_Bool}
 use Rattle.std.proofs.lemmas.Slice.Eq.{bytes_eq-Decides}
-use Rattle.np_records.specs.Names.{place_of}
+use Rattle.np_records.specs.Names.{place_of, place_in}
 use Rattle.np_records.proofs.NameFacts.{place_of-append, place-found}
-use Rattle.net_csv.specs.Fields.{place_in}
 
 or-kept : (o p : Option ℕ) → IsSome o → option_or o p ≡ o
 or-kept None p h = absurd (cc h)

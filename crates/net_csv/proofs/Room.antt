@@ -5,18 +5,21 @@ use Rattle.std.proofs.Common.{inl, inr, arith}
 use Rattle.std.proofs.lemmas.Bool.{cases_Bool}
 use Rattle.std.proofs.lemmas.Bool.Decides.{nat_tests}
 use Rattle.std.proofs.lemmas.List.{length_push, length-set}
-use Rattle.np_frac.specs.Ratio.{is_below}
+use Rattle.np_frac.specs.Ratio.{zero_ratio, is_below}
 use Rattle.np_records.specs.Records.{field_of}
 use Rattle.np_model.specs.declared.scheme.Band.{Band}
 use Rattle.np_model.specs.declared.scheme.Flow.{Flow}
-use Rattle.np_model.specs.Valid.{periods_of}
+use Rattle.np_model.specs.Scheme.Kinds.{periods_of}
 use Rattle.np_records.proofs.FaultFacts.{or-first, or-rest, unless-none}
 use Rattle.net_csv.specs.declared.refused.Code.TheVariants as code
 use Rattle.np_records.specs.Faults.{unless}
-use Rattle.net_csv.specs.Fields.{amount_fault, upper_fault, used_fault, fields_fault, place_in}
-use Rattle.net_csv.specs.Network.{is_kind, is_flow, kind_in, bounds_place}
-use Rattle.net_csv.specs.Faults.{record_fault, piece_fault, nodes_fault, arcs_fault, band_fault, band_of, head_fault, present_slope, is_wide, has_finite_end}
-use Rattle.net_csv.specs.Tables.{Tables, HasRoom, with_record, with_node, with_supply, with_flow, with_piece, band_added, banded, plain_flow, numbers_of}
+use Rattle.net_csv.specs.Fields.{amount_fault, upper_fault, used_fault, fields_fault}
+use Rattle.np_records.specs.Names.{place_in}
+use Rattle.np_records.specs.Rows.{is_kind}
+use Rattle.net_csv.specs.Network.{is_flow, kind_in, bounds_place}
+use Rattle.net_csv.specs.Faults.{record_fault, piece_fault, nodes_fault, arcs_fault, band_fault, band_of, head_fault, present_slope, has_finite_end}
+use Rattle.np_model.specs.Network.Arcs.{is_under}
+use Rattle.net_csv.specs.Steps.Tables.{Tables, HasRoom, with_record, with_node, with_supply, with_flow, with_piece, band_added, banded, plain_flow, numbers_of}
 
 le-times : (n k m : ℕ) → 0 < k → n * k ≤ m → n ≤ m
 le-times n zero m h l = absurd (omega arith)
@@ -55,7 +58,7 @@ room-band t place band (Some f) h e =
       arcs = arcs-few (t.arcs + periods_of t.periods f.kind)
           (or-first (arcs_fault (t.arcs + periods_of t.periods f.kind)) None
           (or-rest (unless (not (is_below band.slope (present_slope f))) code.NotConvex) _
-          (or-rest (unless (is_wide band.width) code.BadBounds) _
+          (or-rest (unless (is_under zero_ratio band.width) code.BadBounds) _
           (or-rest (unless (has_finite_end f) code.PieceAfterInfinite) _ e))));
     }
 

@@ -10,7 +10,8 @@ use Rattle.np_records.specs.Names.{place_of}
 use Rattle.np_model.specs.declared.scheme.Flow.{Flow}
 use Rattle.np_model.specs.declared.scheme.Band.{Band}
 use Rattle.net_csv.specs.declared.given.Given.{Given}
-use Rattle.net_csv.specs.Network.{is_kind, is_flow, given_in, head_in, kind_in, piece_in}
+use Rattle.np_records.specs.Rows.{is_kind}
+use Rattle.net_csv.specs.Network.{is_flow, given_in, head_in, kind_in, piece_in}
 use Rattle.net_csv.proofs.Places.{place-kept, some-kept}
 
 apart : (w a b : List ℕ) → bytes_eq a b ≡ false → bytes_eq w a ≡ true → bytes_eq w b ≡ false

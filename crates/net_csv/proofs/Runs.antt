@@ -1,9 +1,9 @@
 -- Records that are taken one after the other, each without a fault.
 use Rattle.std.specs.Prelude.{◌≡◌, ℕ, ◌+◌, false, None, List, [], ◌∷◌, ◌++◌, length, codes}
 use Rattle.std.proofs.Common.{refl, sym, arith}
-use Rattle.net_csv.specs.Network.{is_kind}
+use Rattle.np_records.specs.Rows.{is_kind}
 use Rattle.net_csv.specs.Faults.{record_fault}
-use Rattle.net_csv.specs.Tables.{Tables, with_record}
+use Rattle.net_csv.specs.Steps.Tables.{Tables, with_record}
 use Rattle.net_csv.proofs.SoFar.{IsSoFar, so_far-more}
 
 -- the record is not `end`, and has no fault where these are the tables before it

@@ -8,10 +8,10 @@ use Rattle.std.proofs.lemmas.List.FromFn.{length-map-range_with_len}
 use Rattle.np_frac.specs.Ratio.{Ratio, zero_ratio}
 use Rattle.np_frac.specs.Amount.{is_amount}
 use Rattle.np_frac.proofs.Amounts.{whole_amount}
-use Rattle.np_model.specs.Valid.{IsScheme}
+use Rattle.np_model.specs.Scheme.Valid.{IsScheme}
 use Rattle.net_csv.specs.declared.given.Given.{Given}
 use Rattle.net_csv.specs.Network.{covers, last_given, supply_from}
-use Rattle.net_csv.specs.Tables.{Tables, IsGiven, IsReady}
+use Rattle.net_csv.specs.Steps.Tables.{Tables, IsGiven, IsReady}
 
 zero-is : is_amount zero_ratio ≡ true
 zero-is = whole_amount (pos 0) (lit< tt)

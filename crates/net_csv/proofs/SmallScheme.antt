@@ -9,7 +9,8 @@ use Rattle.np_frac.proofs.Amounts.{whole_amount}
 use Rattle.np_frac.proofs.RatioLaws.{is_below_true, is_below_false}
 use Rattle.np_model.specs.declared.arc.Upper.TheVariants.{Finite, Infinite}
 use Rattle.np_model.specs.declared.scheme.FlowKind.TheVariants.{Link, Hold, Drain}
-use Rattle.np_model.specs.Valid.{AreNames, IsSound, is_name}
+use Rattle.np_model.specs.Scheme.Names.{AreNames, is_name}
+use Rattle.np_model.specs.Scheme.Valid.{IsSound}
 
 less : (m n : ℕ) → is_below (whole (pos m)) (whole (pos n)) ≡ true → whole (pos m) <ᵣ whole (pos n)
 less m n h = is_below_true (whole (pos m)) (whole (pos n)) h

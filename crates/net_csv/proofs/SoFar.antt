@@ -1,46 +1,46 @@
 -- Reading the records of a text, one by one.
-use Rattle.std.specs.Prelude.{◌≡◌, ℕ, suc, zero, ◌+◌, ◌^◌, ◌<◌, ◌≤◌, ◌==◌, ◌&&◌, nat_lt, Bool, true, false, Some, None, List, [], ◌∷◌, ◌++◌, length, drop, slice_get, Err, codes, if◌then◌else◌}
-use Rattle.std.specs.List.{AllByRecursion}
+use Rattle.std.specs.Prelude.{◌≡◌, ℕ, suc, zero, ◌+◌, ◌^◌, ◌<◌, ◌≤◌, ◌==◌, nat_lt, Bool, true, false, Option, Some, None, List, [], ◌∷◌, ◌++◌, length, take, drop, slice_get, Err, codes, if◌then◌else◌}
+use Rattle.std.specs.List.{AllByRecursion, list_any}
 use Rattle.std.proofs.Common.{refl, sym, ap, ◌∙◌, inl, inr, arith, append_assoc}
 use Rattle.std.proofs.lemmas.Bool.{cases_eq, cases_Bool}
+use Rattle.std.proofs.lemmas.List.Folds.{list_any-append}
 use Rattle.std.proofs.lemmas.Bool.Decides.{nat_tests}
-use Rattle.std.proofs.lemmas.List.{length_push, length-append, take_at, drop_at}
+use Rattle.std.proofs.lemmas.List.{length_push, length-append, length-drop, take_at, drop_at}
 use Rattle.net_csv.specs.declared.refused.Code.{Code}
 use Rattle.net_csv.specs.declared.refused.Code.TheVariants as code
 use Rattle.net_csv.specs.declared.refused.Refused.{Refused}
 use Rattle.net_csv.specs.declared.refused.Refused.TheVariants as refused
+use Rattle.net_csv.specs.declared.refused.Tail.{Tail}
 use Rattle.net_csv.specs.Fields.{fields_fault}
-use Rattle.net_csv.specs.Network.{is_kind, is_flow, node_names, flow_names}
+use Rattle.np_records.specs.Rows.{is_kind, row_at, body_before}
+use Rattle.net_csv.specs.Network.{is_flow, defined_nodes, defined_flows}
 use Rattle.net_csv.specs.Faults.{record_fault, body_fault}
-use Rattle.net_csv.specs.Grammar.{row_at, body_before, periods_in, fault_at, stops_at, stop_of}
-use Rattle.net_csv.specs.Tables.{Tables, TakesRow, HasRoom, AreKept, IsReady, tables_of, no_tables, with_record}
-use Rattle.net_csv.specs.Reading.{IsHeadRead, IsTextRead, RefusesAt}
+use Rattle.net_csv.specs.Grammar.{body_of, is_end, periods_in, fault_at}
+use Rattle.net_csv.specs.Steps.Tables.{Tables, TakesRow, HasRoom, AreKept, IsReady, tables_of, no_tables, with_record}
+use Rattle.net_csv.specs.Steps.Reading.{IsHeadRead, IsTextRead, RefusesAt}
 use Rattle.net_csv.proofs.RowKinds.{IsFine}
 use Rattle.net_csv.proofs.Fine.{fine-none, fine-more, tables-more}
-use Rattle.np_records.proofs.FaultFacts.{unless-none}
 use Rattle.net_csv.proofs.Room.{room-more}
 use Rattle.net_csv.proofs.Steps.{flows-count}
 use Rattle.net_csv.proofs.Kept.{kept-none, kept-more}
-use Rattle.net_csv.proofs.Stops.{stop-is, refuses-at}
+use Rattle.net_csv.proofs.BeforeFirst.{before_first-is}
+use Rattle.net_csv.proofs.HeadFacts.{none-in-head}
+use Rattle.net_csv.proofs.FirstPlaces.{refuses-at}
 
 pub record IsSoFar (rows left : List (List (List ℕ))) (place : ℕ) (t : Tables) : Type 0 where
   pub before : List (List (List ℕ))
   pub whole : rows ≡ before ++ left
   pub size : place ≡ length before
   pub two : 2 ≤ length before
-  pub none : (i : ℕ) → i < place → stops_at rows i ≡ false
+  pub none : (tail : Tail) (i : ℕ) → i < place → fault_at tail rows i ≡ None
+  pub goes : list_any is_end (drop 2 before) ≡ false
   pub tables : t ≡ tables_of (periods_in rows) (drop 2 before)
-  pub fine : AllByRecursion (IsFine (node_names (drop 2 before)) (flow_names (drop 2 before))) (drop 2 before)
+  pub fine : AllByRecursion (IsFine (defined_nodes (drop 2 before)) (defined_flows (drop 2 before))) (drop 2 before)
   pub room : HasRoom t
   pub kept : AreKept t
   pub some : 0 < periods_in rows
 
 -- ---- the head
-
-stops-head : (rows : List (List (List ℕ))) → fault_at rows 0 ≡ None → fault_at rows 1 ≡ None → (i : ℕ) → i < 2 → stops_at rows i ≡ false
-stops-head rows a b zero h = rw a refl
-stops-head rows a b (suc zero) h = rw b refl
-stops-head rows a b (suc (suc i)) h = absurd (omega arith)
 
 empty-tables : (periods : ℕ) → tables_of periods [] ≡ no_tables periods
 unfolding tables_of
@@ -57,7 +57,8 @@ so_far-head (a ∷ b ∷ rest) left periods t h e =
       whole = rw h.left refl;
       size = refl;
       two = omega arith;
-      none = stops-head (a ∷ b ∷ rest) h.header h.second;
+      none = none-in-head a b rest h.header h.second;
+      goes = refl;
       tables = e ∙ sym (empty-tables periods) ∙ ap (λ (k : ℕ). tables_of k []) number;
       fine = tt;
       room = rw e (record { one_each = refl; periods = few; nodes = omega arith; arcs = omega arith });
@@ -72,7 +73,7 @@ drop-short zero xs = omega arith
 drop-short (suc n) [] = omega arith
 drop-short (suc n) (x ∷ xs) = let h = drop-short n xs in omega arith
 
-names-short : (rows : List (List (List ℕ))) → length (flow_names rows) ≤ length rows
+names-short : (rows : List (List (List ℕ))) → length (defined_flows rows) ≤ length rows
 names-short [] = omega arith
 names-short (r ∷ rs) = let h = names-short rs in elim (cases_Bool (is_flow r)) [
   | inl t ↦ rw t (omega arith)
@@ -116,9 +117,9 @@ tables-fault : (periods : ℕ) (body : List (List (List ℕ))) (r : List (List �
 unfolding tables_of
 tables-fault periods body r = refl
 
-pub so_far-fault : (rows left : List (List (List ℕ))) (place : ℕ) (t : Tables) (r : List (List ℕ)) → IsSoFar rows (r ∷ left) place t
-    → fault_at rows place ≡ (if is_kind r (codes "end") then fields_fault 1 r else record_fault t.periods t.nodes t.names t.arcs t.flows r)
-so_far-fault rows left place t r s =
+pub so_far-fault : (tail : Tail) (rows left : List (List (List ℕ))) (place : ℕ) (t : Tables) (r : List (List ℕ)) → IsSoFar rows (r ∷ left) place t
+    → fault_at tail rows place ≡ (if is_kind r (codes "end") then fields_fault 1 r else record_fault t.periods t.nodes t.names t.arcs t.flows r)
+so_far-fault tail rows left place t r s =
     let within = inside rows left place t r s in
     let two = s.two in
     let size = s.size in
@@ -127,13 +128,13 @@ so_far-fault rows left place t r s =
     let not_second : (place == 1) ≡ false = grind (arith, nat_tests) in
     let same : record_fault t.periods t.nodes t.names t.arcs t.flows r ≡ body_fault (periods_in rows) (drop 2 s.before) r =
     ap (λ (x : Tables). record_fault x.periods x.nodes x.names x.arcs x.flows r) s.tables ∙ tables-fault (periods_in rows) (drop 2 s.before) r in
-    rw (there, not_first, not_second, row-here rows left place t r s, body-here rows (r ∷ left) place t s, same) refl
+    rw (there, not_first, not_second, row-here rows left place t r s, body-here rows (r ∷ left) place t s, s.goes, same) refl
 
 pub so_far-refused : (rows left : List (List (List ℕ))) (place at : ℕ) (t : Tables) (r : List (List ℕ)) (c : Code) → IsSoFar rows (r ∷ left) place t → at ≡ place + 1
     → (if is_kind r (codes "end") then fields_fault 1 r else record_fault t.periods t.nodes t.names t.arcs t.flows r) ≡ Some c → RefusesAt (refused.Fault at c) rows
 so_far-refused rows left place at t r c s e fault =
     let within = inside rows left place t r s in
-    refuses-at rows place at c (omega arith) s.none (so_far-fault rows left place t r s ∙ fault) e
+    refuses-at rows place at c (omega arith) s.none (λ tail. so_far-fault tail rows left place t r s ∙ fault) e
 
 pub so_far-no_end : (rows : List (List (List ℕ))) (place at : ℕ) (t : Tables) → IsSoFar rows [] place t → at ≡ place + 1 → RefusesAt (refused.Fault at code.NoEnd) rows
 so_far-no_end rows place at t s e =
@@ -141,7 +142,40 @@ so_far-no_end rows place at t s e =
     let size = s.size in
     let end : length rows ≡ place = rw s.whole (omega arith) in
     let out : nat_lt place (length rows) ≡ false = grind (arith, nat_tests) in
-    refuses-at rows place at code.NoEnd (omega arith) s.none (rw out refl) e
+    refuses-at rows place at code.NoEnd (omega arith) s.none (λ tail. rw (out, body-here rows [] place t s, s.goes) refl) e
+
+-- ---- the end
+
+drop-within : {X : Type 0} (n : ℕ) (before after : List X) → n ≤ length before → drop n (before ++ after) ≡ drop n before ++ after
+drop-within zero before after h = refl
+drop-within (suc n) [] after h = absurd (omega arith)
+drop-within (suc n) (x ∷ xs) after h = drop-within n xs after (omega arith)
+
+-- a fault at no place before this one and at this one is at none before the next
+none-more : (f : ℕ → Option Code) (place next : ℕ) → next ≡ place + 1 → ((i : ℕ) → i < place → f i ≡ None) → f place ≡ None → (i : ℕ) → i < next → f i ≡ None
+none-more f place next e none here i h = elim (cases_eq i place) [
+  | inl last ↦ rw last here
+  | inr other ↦ none i (omega arith)
+]
+
+body-is : (rows left : List (List (List ℕ))) (place : ℕ) (t : Tables) (r : List (List ℕ)) → (s : IsSoFar rows (r ∷ left) place t) → is_kind r (codes "end") ≡ true → body_of rows ≡ drop 2 s.before
+body-is rows left place t r s end = rw (s.whole, drop-within 2 s.before (r ∷ left) s.two) (before_first-is is_end (drop 2 s.before) left r s.goes end)
+
+-- from behind the first `end` on, one was read
+any-later : {X : Type 0} (p : X → Bool) (before after : List X) (x : X) (k : ℕ) → p x ≡ true → length before < k → list_any p (take k (before ++ x ∷ after)) ≡ true
+any-later p before after x zero here past = absurd (omega arith)
+any-later p [] after x (suc k) here past = rw here refl
+any-later p (b ∷ bs) after x (suc k) here past = elim (cases_Bool (p b)) [
+  | inl t ↦ rw t refl
+  | inr f ↦ rw f (any-later p bs after x k here (omega arith))
+]
+
+ended-from : (before left : List (List (List ℕ))) (r : List (List ℕ)) (place : ℕ) → 2 ≤ length before → is_end r ≡ true → length before < place → list_any is_end (drop 2 (take place (before ++ r ∷ left))) ≡ true
+ended-from [] left r place two end past = absurd (omega arith)
+ended-from (a ∷ []) left r place two end past = absurd (omega arith)
+ended-from (a ∷ b ∷ rest) left r zero two end past = absurd (omega arith)
+ended-from (a ∷ b ∷ rest) left r (suc zero) two end past = absurd (omega arith)
+ended-from (a ∷ b ∷ rest) left r (suc (suc k)) two end past = any-later is_end rest left r k end (omega arith)
 
 pub so_far-end : (rows left : List (List (List ℕ))) (place at : ℕ) (t : Tables) (r : List (List ℕ)) → IsSoFar rows (r ∷ left) place t → at ≡ place + 1
     → is_kind r (codes "end") ≡ true → fields_fault 1 r ≡ None → IsTextRead rows left t at
@@ -149,28 +183,21 @@ so_far-end rows left place at t r s e end one =
     let within = inside rows left place t r s in
     let two = s.two in
     let size = s.size in
-    let fault : fault_at rows place ≡ None = so_far-fault rows left place t r s ∙ rw (end, one) refl in
-    let alone : (length r == 1) ≡ true = unless-none _ _ one in
-    let past : nat_lt 1 place ≡ true = grind (arith, nat_tests) in
-    let stops : stops_at rows place ≡ true = rw (fault, past, row-here rows left place t r s, end, alone) refl in
-    let stop : stop_of rows ≡ place = stop-is rows place (omega arith) s.none stops in
+    let body = body-is rows left place t r s end in
+    let short = length-drop 2 s.before in
     let more = length_push s.before r in
     record {
-      fault = rw stop fault;
-      records = rw stop e;
+      right = λ tail. none-more (λ k. fault_at tail rows k) place at e (s.none tail) (so_far-fault tail rows left place t r s ∙ rw (end, one) refl);
+      ended = λ i h. rw s.whole (ended-from s.before left r i two end (omega arith));
+      records = rw body (omega arith);
       within = omega arith;
-      tables = s.tables ∙ ap (λ (l : List (List (List ℕ))). tables_of (periods_in rows) l) (sym (rw stop (body-here rows (r ∷ left) place t s)));
+      tables = s.tables ∙ ap (λ (l : List (List (List ℕ))). tables_of (periods_in rows) l) (sym body);
       left = rw (s.whole, sym (append_assoc s.before (r ∷ []) left)) (sym (drop_at (s.before ++ r ∷ []) left at (omega arith)));
     }
 
 periods-of : (periods : ℕ) (body : List (List (List ℕ))) → (tables_of periods body).periods ≡ periods
 unfolding tables_of
 periods-of periods body = refl
-
-drop-push : (before : List (List (List ℕ))) (r : List (List ℕ)) → 2 ≤ length before → drop 2 (before ++ r ∷ []) ≡ drop 2 before ++ r ∷ []
-drop-push [] r h = absurd (omega arith)
-drop-push (a ∷ []) r h = absurd (omega arith)
-drop-push (a ∷ b ∷ rest) r h = refl
 
 pub so_far-more : (rows left : List (List (List ℕ))) (place at : ℕ) (t u : Tables) (r : List (List ℕ)) → IsSoFar rows (r ∷ left) place t → at ≡ place + 1
     → is_kind r (codes "end") ≡ false → record_fault t.periods t.nodes t.names t.arcs t.flows r ≡ None → u ≡ with_record t r → IsSoFar rows left at u
@@ -182,36 +209,29 @@ so_far-more rows left place at t u r s e goes fine made =
     let same : record_fault t.periods t.nodes t.names t.arcs t.flows r ≡ body_fault (periods_in rows) body r =
     ap (λ (x : Tables). record_fault x.periods x.nodes x.names x.arcs x.flows r) s.tables ∙ tables-fault (periods_in rows) body r in
     let right : body_fault (periods_in rows) body r ≡ None = sym same ∙ fine in
-    let fault : fault_at rows place ≡ None = so_far-fault rows left place t r s ∙ rw (goes, fine) refl in
-    let here : stops_at rows place ≡ false = rw (fault, row-here rows left place t r s, goes) (and-false (nat_lt 1 place)) in
-    let grown = drop-push s.before r two in
+    let grown : drop 2 (s.before ++ r ∷ []) ≡ drop 2 s.before ++ r ∷ [] = drop-within 2 s.before (r ∷ []) two in
+    let none : list_any is_end (r ∷ []) ≡ false = rw goes refl in
     let number : t.periods ≡ periods_in rows = ap (λ (x : Tables). x.periods) s.tables ∙ periods-of (periods_in rows) body in
     record {
       before = s.before ++ r ∷ [];
       whole = s.whole ∙ sym (append_assoc s.before (r ∷ []) left);
       size = omega arith;
       two = omega arith;
-      none = λ i h. elim (cases_eq i place) [
-        | inl last ↦ rw last here
-        | inr other ↦ s.none i (omega arith)
-      ];
+      none = λ tail. none-more (λ k. fault_at tail rows k) place at e (s.none tail) (so_far-fault tail rows left place t r s ∙ rw (goes, fine) refl);
+      goes = rw grown (list_any-append is_end body (r ∷ []) ∙ rw (s.goes, none) refl);
       tables = made ∙ ap (λ (x : Tables). with_record x r) s.tables ∙ sym (tables-more (periods_in rows) body r s.fine right) ∙ ap (λ (l : List (List (List ℕ))). tables_of (periods_in rows) l) (sym grown);
       fine = rw grown (fine-more body r s.fine (fine-none (periods_in rows) body r right));
       room = rw made (room-more t r (rw number s.some) s.room fine);
       kept = rw made (kept-more t r s.kept fine);
       some = s.some;
     }
-  where
-    and-false : (b : Bool) → (b && false) ≡ false
-    and-false true = refl
-    and-false false = refl
 
 -- what taking a row answered
 
 pub row-refused : (e : Refused) (rows left : List (List (List ℕ))) (place at : ℕ) (t u : Tables) (r : List (List ℕ)) → IsSoFar rows (r ∷ left) place t → at ≡ place + 1
     → TakesRow (Err e) t u r at → RefusesAt e rows
-row-refused (refused.Fault k c) rows left place at t u r s e h = so_far-refused rows left place k t r c s (h.0 ∙ e) h.1
-row-refused refused.Memory rows left place at t u r s e h = tt
+row-refused (refused.Fault k c) rows left place at t u r s e h tail = so_far-refused rows left place k t r c s (h.0 ∙ e) h.1 tail
+row-refused refused.Memory rows left place at t u r s e h tail = tt
 
 -- where reading is, and what is left
 pub so_far-size : (rows left : List (List (List ℕ))) (place : ℕ) (t : Tables) → IsSoFar rows left place t → place + length left ≡ length rows

@@ -8,15 +8,16 @@ use Rattle.std.proofs.lemmas.List.{append-nil, length_push}
 use Rattle.std.proofs.lemmas.List.Elements.{filter_map-append}
 use Rattle.std.proofs.lemmas.List.Sums.{sum_by_push, sum_by-set}
 use Rattle.np_records.specs.Records.{field_of}
-use Rattle.np_records.specs.Names.{place_of}
+use Rattle.np_records.specs.Names.{place_of, place_in}
 use Rattle.np_model.specs.declared.scheme.Band.{Band}
 use Rattle.np_model.specs.declared.scheme.Flow.{Flow}
-use Rattle.np_model.specs.Valid.{expanded_arcs, periods_of}
+use Rattle.np_model.specs.Scheme.Valid.{expanded_arcs}
+use Rattle.np_model.specs.Scheme.Kinds.{periods_of}
 use Rattle.net_csv.specs.declared.given.Given.{Given}
-use Rattle.net_csv.specs.Fields.{place_in}
-use Rattle.net_csv.specs.Network.{is_kind, is_flow, defined_node, defined_flow, node_names, flow_names, given_in, head_in, piece_in, supplies_of, heads_of, pieces_of, flows_of, bands_at, with_bands}
+use Rattle.np_records.specs.Rows.{is_kind}
+use Rattle.net_csv.specs.Network.{is_flow, defined_node, defined_flow, defined_nodes, defined_flows, given_in, head_in, piece_in, supplies_of, heads_of, pieces_of, flows_of, bands_at, with_bands}
 use Rattle.net_csv.specs.Faults.{band_of}
-use Rattle.net_csv.specs.Tables.{Tables, tables_of, with_node, with_supply, with_flow, with_piece, banded, supply_of, plain_flow, head_of}
+use Rattle.net_csv.specs.Steps.Tables.{Tables, tables_of, with_node, with_supply, with_flow, with_piece, banded, supply_of, plain_flow, head_of}
 use Rattle.net_csv.proofs.Places.{place-is, place-within}
 use Rattle.net_csv.proofs.RowKinds.{IsFine, kind-is, supplies-kept, heads-kept, pieces-kept}
 use Rattle.net_csv.proofs.FlowLists.{bands-beyond, with_bands-flow, with_bands-band}
@@ -38,7 +39,7 @@ same_parts t u a b c d e f = parts _ _ _ _ _ _ _ _ _ _ _ _ a b c d e f
 
 -- ---- a node
 
-pub tables-node : (periods : ℕ) (rows : List (List (List ℕ))) (r : List (List ℕ)) → AllByRecursion (IsFine (node_names rows) (flow_names rows)) rows
+pub tables-node : (periods : ℕ) (rows : List (List (List ℕ))) (r : List (List ℕ)) → AllByRecursion (IsFine (defined_nodes rows) (defined_flows rows)) rows
     → is_kind r (codes "node") ≡ true → tables_of periods (rows ++ r ∷ []) ≡ with_node (tables_of periods rows) r
 unfolding tables_of
 tables-node periods rows r fine t =
@@ -46,17 +47,17 @@ tables-node periods rows r fine t =
     let no_supply : is_kind r (codes "supply") ≡ false = rw word refl in
     let no_flow : is_flow r ≡ false = rw word refl in
     let no_piece : is_kind r (codes "piece") ≡ false = rw word refl in
-    let nodes : node_names (rows ++ r ∷ []) ≡ node_names rows ++ field_of r 1 ∷ [] = gives defined_node rows r (field_of r 1) (rw t refl) in
-    let names : flow_names (rows ++ r ∷ []) ≡ flow_names rows = gives_none defined_flow rows r (rw no_flow refl) in
-    let supplies : supplies_of (rows ++ r ∷ []) ≡ supplies_of rows = rw nodes (gives_none (given_in (node_names rows ++ field_of r 1 ∷ [])) rows r (rw no_supply refl) ∙ supplies-kept (node_names rows) (field_of r 1 ∷ []) (flow_names rows) rows fine) in
-    let heads : heads_of (rows ++ r ∷ []) ≡ heads_of rows = rw nodes (gives_none (head_in (node_names rows ++ field_of r 1 ∷ [])) rows r (rw no_flow refl) ∙ heads-kept (node_names rows) (field_of r 1 ∷ []) (flow_names rows) rows fine) in
-    let pieces : pieces_of (rows ++ r ∷ []) ≡ pieces_of rows = rw names (gives_none (piece_in (flow_names rows)) rows r (rw no_piece refl)) in
+    let nodes : defined_nodes (rows ++ r ∷ []) ≡ defined_nodes rows ++ field_of r 1 ∷ [] = gives defined_node rows r (field_of r 1) (rw t refl) in
+    let names : defined_flows (rows ++ r ∷ []) ≡ defined_flows rows = gives_none defined_flow rows r (rw no_flow refl) in
+    let supplies : supplies_of (rows ++ r ∷ []) ≡ supplies_of rows = rw nodes (gives_none (given_in (defined_nodes rows ++ field_of r 1 ∷ [])) rows r (rw no_supply refl) ∙ supplies-kept (defined_nodes rows) (field_of r 1 ∷ []) (defined_flows rows) rows fine) in
+    let heads : heads_of (rows ++ r ∷ []) ≡ heads_of rows = rw nodes (gives_none (head_in (defined_nodes rows ++ field_of r 1 ∷ [])) rows r (rw no_flow refl) ∙ heads-kept (defined_nodes rows) (field_of r 1 ∷ []) (defined_flows rows) rows fine) in
+    let pieces : pieces_of (rows ++ r ∷ []) ≡ pieces_of rows = rw names (gives_none (piece_in (defined_flows rows)) rows r (rw no_piece refl)) in
     let flows : flows_of (rows ++ r ∷ []) ≡ flows_of rows = rw (heads, pieces) refl in
     same_parts _ _ refl nodes names supplies flows (ap (λ (l : List Flow). expanded_arcs periods l) flows)
 
 -- ---- a supply
 
-pub tables-supply : (periods : ℕ) (rows : List (List (List ℕ))) (r : List (List ℕ)) → is_kind r (codes "supply") ≡ true → IsSome (place_of (node_names rows) (field_of r 1))
+pub tables-supply : (periods : ℕ) (rows : List (List (List ℕ))) (r : List (List ℕ)) → is_kind r (codes "supply") ≡ true → IsSome (place_of (defined_nodes rows) (field_of r 1))
     → tables_of periods (rows ++ r ∷ []) ≡ with_supply (tables_of periods rows) r
 unfolding tables_of
 tables-supply periods rows r t node =
@@ -64,12 +65,12 @@ tables-supply periods rows r t node =
     let no_node : is_kind r (codes "node") ≡ false = rw word refl in
     let no_flow : is_flow r ≡ false = rw word refl in
     let no_piece : is_kind r (codes "piece") ≡ false = rw word refl in
-    let nodes : node_names (rows ++ r ∷ []) ≡ node_names rows = gives_none defined_node rows r (rw no_node refl) in
-    let names : flow_names (rows ++ r ∷ []) ≡ flow_names rows = gives_none defined_flow rows r (rw no_flow refl) in
-    let gift : given_in (node_names rows) r ≡ Some (supply_of (node_names rows) r) = rw (t, place-is (node_names rows) (field_of r 1) node) refl in
-    let supplies : supplies_of (rows ++ r ∷ []) ≡ supplies_of rows ++ supply_of (node_names rows) r ∷ [] = rw nodes (gives (given_in (node_names rows)) rows r _ gift) in
-    let heads : heads_of (rows ++ r ∷ []) ≡ heads_of rows = rw nodes (gives_none (head_in (node_names rows)) rows r (rw no_flow refl)) in
-    let pieces : pieces_of (rows ++ r ∷ []) ≡ pieces_of rows = rw names (gives_none (piece_in (flow_names rows)) rows r (rw no_piece refl)) in
+    let nodes : defined_nodes (rows ++ r ∷ []) ≡ defined_nodes rows = gives_none defined_node rows r (rw no_node refl) in
+    let names : defined_flows (rows ++ r ∷ []) ≡ defined_flows rows = gives_none defined_flow rows r (rw no_flow refl) in
+    let gift : given_in (defined_nodes rows) r ≡ Some (supply_of (defined_nodes rows) r) = rw (t, place-is (defined_nodes rows) (field_of r 1) node) refl in
+    let supplies : supplies_of (rows ++ r ∷ []) ≡ supplies_of rows ++ supply_of (defined_nodes rows) r ∷ [] = rw nodes (gives (given_in (defined_nodes rows)) rows r _ gift) in
+    let heads : heads_of (rows ++ r ∷ []) ≡ heads_of rows = rw nodes (gives_none (head_in (defined_nodes rows)) rows r (rw no_flow refl)) in
+    let pieces : pieces_of (rows ++ r ∷ []) ≡ pieces_of rows = rw names (gives_none (piece_in (defined_flows rows)) rows r (rw no_piece refl)) in
     let flows : flows_of (rows ++ r ∷ []) ≡ flows_of rows = rw (heads, pieces) refl in
     same_parts _ _ refl nodes names supplies flows (ap (λ (l : List Flow). expanded_arcs periods l) flows)
 
@@ -101,24 +102,24 @@ pieces-within ns fs (r ∷ rs) h = elim (cases_Bool (is_kind r (codes "piece")))
   | inr f ↦ rw f (pieces-within ns fs rs h.1)
 ]
 
-heads-count : (ns : List (List ℕ)) (rows : List (List (List ℕ))) → length (filter_map (head_in ns) rows) ≡ length (flow_names rows)
+heads-count : (ns : List (List ℕ)) (rows : List (List (List ℕ))) → length (filter_map (head_in ns) rows) ≡ length (defined_flows rows)
 heads-count ns [] = refl
 heads-count ns (r ∷ rs) = elim (cases_Bool (is_flow r)) [
   | inl t ↦ let rest = heads-count ns rs in rw t (omega arith)
   | inr f ↦ rw f (heads-count ns rs)
 ]
 
-pub tables-flow : (periods : ℕ) (rows : List (List (List ℕ))) (r : List (List ℕ)) → AllByRecursion (IsFine (node_names rows) (flow_names rows)) rows
+pub tables-flow : (periods : ℕ) (rows : List (List (List ℕ))) (r : List (List ℕ)) → AllByRecursion (IsFine (defined_nodes rows) (defined_flows rows)) rows
     → is_flow r ≡ true → tables_of periods (rows ++ r ∷ []) ≡ with_flow (tables_of periods rows) r
 unfolding tables_of
 tables-flow periods rows r fine t =
-    let ns = node_names rows in
-    let fs = flow_names rows in
+    let ns = defined_nodes rows in
+    let fs = defined_flows rows in
     let no_node : is_kind r (codes "node") ≡ false = flow-apart r (codes "node") t refl refl refl refl in
     let no_supply : is_kind r (codes "supply") ≡ false = flow-apart r (codes "supply") t refl refl refl refl in
     let no_piece : is_kind r (codes "piece") ≡ false = flow-apart r (codes "piece") t refl refl refl refl in
-    let nodes : node_names (rows ++ r ∷ []) ≡ ns = gives_none defined_node rows r (rw no_node refl) in
-    let names : flow_names (rows ++ r ∷ []) ≡ fs ++ field_of r 1 ∷ [] = gives defined_flow rows r (field_of r 1) (rw t refl) in
+    let nodes : defined_nodes (rows ++ r ∷ []) ≡ ns = gives_none defined_node rows r (rw no_node refl) in
+    let names : defined_flows (rows ++ r ∷ []) ≡ fs ++ field_of r 1 ∷ [] = gives defined_flow rows r (field_of r 1) (rw t refl) in
     let supplies : supplies_of (rows ++ r ∷ []) ≡ supplies_of rows = rw nodes (gives_none (given_in ns) rows r (rw no_supply refl)) in
     let head = plain_flow (field_of r 1) (head_of ns r).kind (head_of ns r).numbers in
     let heads : heads_of (rows ++ r ∷ []) ≡ heads_of rows ++ head ∷ [] = rw nodes (gives (head_in ns) rows r head (rw t refl)) in
@@ -135,8 +136,8 @@ bands-count : (n : ℕ) (hs : List Flow) (ps : List (ℕ × Band)) → length (w
 bands-count n [] ps = refl
 bands-count n (h ∷ hs) ps = let rest = bands-count (n + 1) hs ps in omega arith
 
-pub flows-count : (rows : List (List (List ℕ))) → length (flows_of rows) ≡ length (flow_names rows)
-flows-count rows = bands-count 0 (heads_of rows) (pieces_of rows) ∙ heads-count (node_names rows) rows
+pub flows-count : (rows : List (List (List ℕ))) → length (flows_of rows) ≡ length (defined_flows rows)
+flows-count rows = bands-count 0 (heads_of rows) (pieces_of rows) ∙ heads-count (defined_nodes rows) rows
 
 -- what stands at a place
 pub there : {X : Type 0} (xs : List X) (k : ℕ) → k < length xs → (x : X) × (slice_get xs k ≡ Some x)
@@ -152,18 +153,18 @@ get_or-there (y ∷ ys) (suc k) x e = get_or-there ys k x e
 one_more : (n k : ℕ) → (1 + (n + 1)) * k ≡ (1 + n) * k + k
 one_more n k = omega arith
 
-pub tables-piece : (periods : ℕ) (rows : List (List (List ℕ))) (r : List (List ℕ)) → is_kind r (codes "piece") ≡ true → IsSome (place_of (flow_names rows) (field_of r 1))
+pub tables-piece : (periods : ℕ) (rows : List (List (List ℕ))) (r : List (List ℕ)) → is_kind r (codes "piece") ≡ true → IsSome (place_of (defined_flows rows) (field_of r 1))
     → tables_of periods (rows ++ r ∷ []) ≡ with_piece (tables_of periods rows) r
 unfolding tables_of
 tables-piece periods rows r t named =
-    let ns = node_names rows in
-    let fs = flow_names rows in
+    let ns = defined_nodes rows in
+    let fs = defined_flows rows in
     let word = kind-is r (codes "piece") t in
     let no_node : is_kind r (codes "node") ≡ false = rw word refl in
     let no_supply : is_kind r (codes "supply") ≡ false = rw word refl in
     let no_flow : is_flow r ≡ false = rw word refl in
-    let nodes : node_names (rows ++ r ∷ []) ≡ ns = gives_none defined_node rows r (rw no_node refl) in
-    let names : flow_names (rows ++ r ∷ []) ≡ fs = gives_none defined_flow rows r (rw no_flow refl) in
+    let nodes : defined_nodes (rows ++ r ∷ []) ≡ ns = gives_none defined_node rows r (rw no_node refl) in
+    let names : defined_flows (rows ++ r ∷ []) ≡ fs = gives_none defined_flow rows r (rw no_flow refl) in
     let supplies : supplies_of (rows ++ r ∷ []) ≡ supplies_of rows = rw nodes (gives_none (given_in ns) rows r (rw no_supply refl)) in
     let heads : heads_of (rows ++ r ∷ []) ≡ heads_of rows = rw nodes (gives_none (head_in ns) rows r (rw no_flow refl)) in
     let k = place_in fs (field_of r 1) in

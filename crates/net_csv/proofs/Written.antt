@@ -1,8 +1,7 @@
 -- The text of a scheme is read, and it is the text of that scheme.
-use Rattle.std.specs.Prelude.{◌≡◌, ℕ, ◌+◌, ◌*◌, ◌<◌, ◌≤◌, nat_lt, true, Ok, List, [], ◌∷◌, ◌++◌, length, map, get_or, codes, decimal}
+use Rattle.std.specs.Prelude.{◌≡◌, ℕ, ◌+◌, ◌*◌, ◌<◌, ◌≤◌, true, Ok, List, [], ◌∷◌, ◌++◌, length, map, get_or, codes, decimal}
 use Rattle.std.specs.List.{AllByRecursion, filter_map, flat_map, enumerate_from}
 use Rattle.std.proofs.Common.{refl, sym, ap, arith, subst, append_assoc}
-use Rattle.std.proofs.lemmas.Bool.Decides.{nat_tests}
 use Rattle.std.proofs.lemmas.List.{append-nil, length-append}
 use Rattle.std.proofs.lemmas.List.Elements.{recursion_from_All}
 use Rattle.std.proofs.lemmas.List.FromFn.{fill_by_all}
@@ -10,14 +9,15 @@ use Rattle.np_frac.specs.Ratio.{Ratio, zero_ratio}
 use Rattle.np_frac.specs.Amount.{is_amount}
 use Rattle.np_model.specs.declared.scheme.Flow.{Flow}
 use Rattle.np_model.specs.declared.scheme.Scheme.{Scheme}
-use Rattle.np_model.specs.Valid.{IsSound, is_name}
+use Rattle.np_model.specs.Scheme.Valid.{IsSound}
+use Rattle.np_model.specs.Scheme.Names.{is_name}
 use Rattle.net_csv.specs.declared.given.Given.{Given}
 use Rattle.net_csv.specs.declared.refused.Tail.{Tail}
 use Rattle.net_csv.specs.declared.refused.Tail.TheVariants as tail
-use Rattle.net_csv.specs.Network.{node_names, supplies_of, flows_of}
+use Rattle.net_csv.specs.Network.{defined_nodes, supplies_of, flows_of}
 use Rattle.net_csv.specs.Grammar.{IsSchemeOf, read_records, periods_in, body_of, supply_at}
-use Rattle.net_csv.specs.Tables.{Tables, tables_of, no_tables}
-use Rattle.net_csv.specs.Reading.{IsHeadRead, IsTextRead}
+use Rattle.net_csv.specs.Steps.Tables.{Tables, tables_of, no_tables}
+use Rattle.net_csv.specs.Steps.Reading.{IsHeadRead, IsTextRead}
 use Rattle.net_csv.specs.Writing.{node_row, supply_row, flow_rows, body_rows, rows_of}
 use Rattle.net_csv.proofs.SoFar.{IsSoFar, so_far-head, so_far-end}
 use Rattle.net_csv.proofs.Tails.{told-plan, told-nothing}
@@ -58,12 +58,9 @@ runs-body s =
 head-read : (periods : ℕ) (left : List (List (List ℕ))) → 0 < periods → periods ≤ 20000
     → IsHeadRead ((codes "netplan" ∷ codes "1" ∷ []) ∷ (codes "periods" ∷ decimal periods ∷ []) ∷ left) left periods
 head-read periods left some few =
-    let rows = (codes "netplan" ∷ codes "1" ∷ []) ∷ (codes "periods" ∷ decimal periods ∷ []) ∷ left in
-    let first : nat_lt 0 (length rows) ≡ true = grind (arith, nat_tests) in
-    let second : nat_lt 1 (length rows) ≡ true = grind (arith, nat_tests) in
     record {
-      header = rw first refl;
-      second = rw (second, decimal-period 20000 periods some few (omega arith)) refl;
+      header = refl;
+      second = rw (decimal-period 20000 periods some few (omega arith)) refl;
       two = omega arith;
       left = refl;
       number = sym (number-decimal periods few);
@@ -96,18 +93,18 @@ written-read tail.Plan s = told-plan (rows_of s) [] _ (length (rows_of s)) (text
 
 -- ---- the scheme
 
-supply-back : (body : List (List (List ℕ))) (nodes : List (List ℕ)) (supply : List Ratio) (k : ℕ) → node_names body ≡ nodes → supplies_of body ≡ gifts nodes supply → k < length supply
+supply-back : (body : List (List (List ℕ))) (nodes : List (List ℕ)) (supply : List Ratio) (k : ℕ) → defined_nodes body ≡ nodes → supplies_of body ≡ gifts nodes supply → k < length supply
     → get_or supply k zero_ratio ≡ supply_at body k
 supply-back body nodes supply k e g h = rw (g, e) (sym (given-at (length nodes) supply 0 k k (omega arith) h))
 
-parts-of : (periods : ℕ) (body : List (List (List ℕ))) (t : Tables) → t ≡ tables_of periods body → (t.periods ≡ periods) × (t.nodes ≡ node_names body) × (t.supplies ≡ supplies_of body) × (t.flows ≡ flows_of body)
+parts-of : (periods : ℕ) (body : List (List (List ℕ))) (t : Tables) → t ≡ tables_of periods body → (t.periods ≡ periods) × (t.nodes ≡ defined_nodes body) × (t.supplies ≡ supplies_of body) × (t.flows ≡ flows_of body)
 unfolding tables_of
 parts-of periods body t e = (ap (λ (x : Tables). x.periods) e, ap (λ (x : Tables). x.nodes) e, ap (λ (x : Tables). x.supplies) e, ap (λ (x : Tables). x.flows) e)
 
 scheme-of : (rows after : List (List (List ℕ))) (s : Scheme) (count : ℕ) → IsTextRead rows after (written_tables s) count → IsSchemeOf rows s
 scheme-of rows after s count read =
     let parts = parts-of (periods_in rows) (body_of rows) _ read.tables in
-    let size : length s.supply ≡ periods_in rows * length (node_names (body_of rows)) = rw (sym parts.0, sym parts.1) s.valid.one_each in
+    let size : length s.supply ≡ periods_in rows * length (defined_nodes (body_of rows)) = rw (sym parts.0, sym parts.1) s.valid.one_each in
     record {
       periods = parts.0;
       nodes = parts.1;

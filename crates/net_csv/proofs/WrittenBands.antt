@@ -14,11 +14,14 @@ use Rattle.np_model.specs.declared.arc.Upper.{Upper}
 use Rattle.np_model.specs.declared.arc.Upper.TheVariants.{Finite, Infinite}
 use Rattle.np_model.specs.declared.scheme.Band.{Band}
 use Rattle.np_model.specs.declared.scheme.Flow.{Flow}
-use Rattle.np_model.specs.Stages.{IsUnder, IsConvexFrom}
-use Rattle.np_model.specs.Valid.{AreReached, IsSound, is_amount_or_infinite, is_name, periods_of, expanded_arcs}
-use Rattle.net_csv.specs.Faults.{arcs_fault, band_fault, piece_fault, has_finite_end, is_finite, present_slope, last_band}
+use Rattle.np_model.specs.Network.Arcs.{IsUnder, is_finite}
+use Rattle.np_model.specs.Scheme.Segments.{IsConvexFrom, AreReached}
+use Rattle.np_model.specs.Scheme.Valid.{IsSound, is_amount_or_infinite, expanded_arcs}
+use Rattle.np_model.specs.Scheme.Names.{is_name}
+use Rattle.np_model.specs.Scheme.Kinds.{periods_of}
+use Rattle.net_csv.specs.Faults.{arcs_fault, band_fault, piece_fault, has_finite_end, present_slope, last_band}
 use Rattle.net_csv.specs.declared.given.Given.{Given}
-use Rattle.net_csv.specs.Tables.{Tables, with_record, flow_added, banded}
+use Rattle.net_csv.specs.Steps.Tables.{Tables, with_record, flow_added, banded}
 use Rattle.net_csv.specs.Writing.{piece_row, flow_rows}
 use Rattle.net_csv.proofs.AmountTexts.{amount_text-value}
 use Rattle.net_csv.proofs.WrittenNames.{place-new, place-last}

@@ -6,20 +6,20 @@ use Rattle.std.proofs.lemmas.Slice.Eq.{bytes_eq-Decides}
 use Rattle.std.proofs.lemmas.Fmt.{decimal_is_IsNumeral, length-decimal-le}
 use Rattle.np_frac.specs.Ratio.{Ratio, zero_ratio, is_below, ◌≤ᵣ◌, ◌<ᵣ◌}
 use Rattle.np_frac.specs.Text.{number, IsNumber}
-use Rattle.np_frac.specs.Amount.{is_amount}
+use Rattle.np_frac.specs.Amount.{is_amount, is_amount_text}
 use Rattle.np_frac.proofs.RatioLaws.{clash, is_below_true, is_below_false}
 use Rattle.np_records.specs.Names.{place_of}
 use Rattle.np_model.specs.declared.arc.Upper.{Upper}
 use Rattle.np_model.specs.declared.arc.Upper.TheVariants.{Finite, Infinite}
-use Rattle.np_model.specs.Network.{IsAtMost}
-use Rattle.np_model.specs.Stages.{IsUnder}
-use Rattle.np_model.specs.Valid.{is_name, is_amount_or_infinite}
-use Rattle.net_csv.specs.Fields.{is_amount_text, is_infinite, upper_of, amount_fault, upper_fault, gain_fault, new_fault, used_fault, is_all, is_period, period_fault, period_of}
-use Rattle.net_csv.specs.Faults.{is_at_most, is_wide}
+use Rattle.np_model.specs.Network.Arcs.{IsAtMost, IsUnder, is_at_most, is_under}
+use Rattle.np_model.specs.Scheme.Names.{is_name}
+use Rattle.np_model.specs.Scheme.Valid.{is_amount_or_infinite}
+use Rattle.net_csv.specs.Fields.{is_infinite, upper_of, amount_fault, upper_fault, gain_fault, new_fault, used_fault, is_all, period_fault, period_of}
+use Rattle.np_records.specs.Rows.{is_period}
 use Rattle.net_csv.specs.AmountText.{amount_text}
 use Rattle.net_csv.specs.Writing.{upper_text}
 use Rattle.net_csv.proofs.AmountTexts.{amount_text-reads, amount_text-value}
-use Rattle.net_csv.proofs.FieldFacts.{period-is}
+use Rattle.np_records.proofs.NumberFacts.{period-is}
 
 -- ---- the order of ratios as tests
 
@@ -39,7 +39,7 @@ pub at_most : (a : Ratio) (u : Upper) → IsAtMost a u → is_at_most a u ≡ tr
 at_most a (Finite u) h = rw (not_below a u h) refl
 at_most a Infinite h = refl
 
-pub wide : (u : Upper) → IsUnder zero_ratio u → is_wide u ≡ true
+pub wide : (u : Upper) → IsUnder zero_ratio u → is_under zero_ratio u ≡ true
 wide (Finite u) h = below zero_ratio u h
 wide Infinite h = refl
 

@@ -8,13 +8,18 @@ use Rattle.np_records.specs.Records.{field_of}
 use Rattle.np_model.specs.declared.scheme.FlowKind.{FlowKind}
 use Rattle.np_model.specs.declared.scheme.FlowKind.TheVariants.{Link, Hold, Drain, Feed}
 use Rattle.np_model.specs.declared.scheme.Flow.{Flow}
-use Rattle.np_model.specs.Valid.{IsSound, JoinsNodes, HasGain, has_amounts, has_amount_gain, is_amount_or_infinite, periods_of}
-use Rattle.net_csv.specs.Fields.{amount_fault, upper_fault, gain_fault, new_fault, used_fault, upper_of, place_in}
-use Rattle.net_csv.specs.Network.{is_kind, is_flow, kind_in, bounds_place}
-use Rattle.net_csv.specs.Faults.{head_fault, flow_fault, arcs_fault, is_at_most}
-use Rattle.net_csv.specs.Tables.{Tables, with_record, flow_added}
+use Rattle.np_model.specs.Scheme.Valid.{IsSound, has_amounts, has_amount_gain, is_amount_or_infinite}
+use Rattle.np_model.specs.Scheme.Kinds.{JoinsNodes, HasGain, periods_of}
+use Rattle.net_csv.specs.Fields.{amount_fault, upper_fault, gain_fault, new_fault, used_fault, upper_of}
+use Rattle.np_records.specs.Names.{place_in}
+use Rattle.np_records.specs.Rows.{is_kind}
+use Rattle.net_csv.specs.Network.{is_flow, kind_in, bounds_place}
+use Rattle.net_csv.specs.Faults.{head_fault, flow_fault, arcs_fault}
+use Rattle.np_model.specs.Network.Arcs.{is_at_most}
+use Rattle.net_csv.specs.Steps.Tables.{Tables, with_record, flow_added}
 use Rattle.net_csv.specs.AmountText.{amount_text}
-use Rattle.net_csv.specs.Writing.{name_at, upper_text, ends_row, flow_row}
+use Rattle.np_model.specs.Scheme.Names.{name_at}
+use Rattle.net_csv.specs.Writing.{upper_text, ends_row, flow_row}
 use Rattle.net_csv.proofs.AmountTexts.{amount_text-value}
 use Rattle.net_csv.proofs.WrittenNames.{place-own, names-differ}
 use Rattle.net_csv.proofs.WrittenFields.{amount-fine, gain-fine, upper-fine, upper-value, used-fine, at_most}

@@ -6,9 +6,9 @@ use Rattle.std.proofs.Common.{refl, arith, append_assoc}
 use Rattle.std.proofs.Math.Nat.{mul-le-mul_right}
 use Rattle.std.proofs.lemmas.Bool.Decides.{nat_tests}
 use Rattle.std.proofs.lemmas.List.{append-nil, length-append}
-use Rattle.np_model.specs.Valid.{is_name}
+use Rattle.np_model.specs.Scheme.Names.{is_name}
 use Rattle.net_csv.specs.Faults.{nodes_fault}
-use Rattle.net_csv.specs.Tables.{Tables, no_tables}
+use Rattle.net_csv.specs.Steps.Tables.{Tables, no_tables}
 use Rattle.net_csv.specs.Writing.{node_row}
 use Rattle.net_csv.proofs.WrittenNames.{place-new}
 use Rattle.net_csv.proofs.WrittenFields.{new-fine}

@@ -15,9 +15,10 @@ use Rattle.np_records.specs.Names.{place_of}
 use Rattle.net_csv.specs.declared.given.Given.{Given}
 use Rattle.net_csv.specs.Network.{last_given}
 use Rattle.net_csv.specs.Faults.{supply_fault}
-use Rattle.net_csv.specs.Tables.{Tables, with_record}
+use Rattle.net_csv.specs.Steps.Tables.{Tables, with_record}
 use Rattle.net_csv.specs.AmountText.{amount_text}
-use Rattle.net_csv.specs.Writing.{name_at, supply_row}
+use Rattle.np_model.specs.Scheme.Names.{name_at}
+use Rattle.net_csv.specs.Writing.{supply_row}
 use Rattle.net_csv.proofs.AmountTexts.{amount_text-value}
 use Rattle.net_csv.proofs.WrittenNames.{place-own}
 use Rattle.net_csv.proofs.WrittenFields.{amount-fine, used-fine, period-fine, period-value}

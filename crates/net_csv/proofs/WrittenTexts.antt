@@ -12,7 +12,7 @@ use Rattle.np_records.proofs.TextFacts.{records-headed, back-whole}
 use Rattle.np_model.specs.declared.scheme.Scheme.{Scheme}
 use Rattle.net_csv.specs.declared.refused.Tail.{Tail}
 use Rattle.net_csv.specs.Grammar.{IsSchemeOf, read_records}
-use Rattle.net_csv.specs.Tables.{Tables, with_record}
+use Rattle.net_csv.specs.Steps.Tables.{Tables, with_record}
 use Rattle.net_csv.specs.Writing.{node_row, supply_row, flow_rows, head_rows, body_rows, rows_of}
 use Rattle.net_csv.proofs.Runs.{Runs}
 use Rattle.net_csv.proofs.Written.{runs-body, written-read, written-scheme}

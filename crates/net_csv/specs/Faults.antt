@@ -1,36 +1,25 @@
 -- What is wrong with a record of the body of a network text, where these are the records of the body before it. The tests are made in
 -- the order in which they stand here, and the first that fails tells the fault.
-use Rattle.std.specs.Prelude.{ℕ, ◌+◌, ◌-◌, ◌*◌, ◌&&◌, nat_le, not, Bool, true, false, Option, Some, List, [], ◌∷◌, length, codes, slice_get, if◌then◌else◌}
+use Rattle.std.specs.Prelude.{ℕ, ◌+◌, ◌-◌, ◌*◌, ◌&&◌, nat_le, not, Bool, Option, Some, List, [], ◌∷◌, length, codes, slice_get, if◌then◌else◌}
 use Rattle.std.specs.Option.{option_or, option_map_or, option_and_then}
 use Rattle.std.specs.Str.{bytes_eq}
 use Rattle.np_frac.specs.Ratio.{Ratio, zero_ratio, is_below}
 use Rattle.np_frac.specs.Amount.{amount_of}
 use Rattle.np_records.specs.Records.{field_of}
-use Rattle.np_model.specs.declared.arc.Upper.{Upper}
-use Rattle.np_model.specs.declared.arc.Upper.TheVariants.{Finite, Infinite}
 use Rattle.np_model.specs.declared.scheme.Band.{Band}
 use Rattle.np_model.specs.declared.scheme.Flow.{Flow}
-use Rattle.np_model.specs.Valid.{periods_of, expanded_arcs}
+use Rattle.np_model.specs.Scheme.Kinds.{periods_of}
+use Rattle.np_model.specs.Scheme.Valid.{expanded_arcs}
 use Rattle.net_csv.specs.declared.refused.Code.{Code}
 use Rattle.net_csv.specs.declared.refused.Code.TheVariants as code
 use Rattle.np_records.specs.Faults.{first_fault, unless}
-use Rattle.net_csv.specs.Fields.{fields_fault, new_fault, used_fault, gain_fault, amount_fault, upper_fault, period_fault, upper_of, place_in}
-use Rattle.net_csv.specs.Network.{is_kind, is_flow, kind_in, bounds_place, node_names, flow_names, flows_of}
+use Rattle.np_model.specs.Network.Arcs.{is_at_most, is_finite, is_under}
+use Rattle.net_csv.specs.Fields.{fields_fault, new_fault, used_fault, gain_fault, amount_fault, upper_fault, period_fault, upper_of}
+use Rattle.np_records.specs.Names.{place_in}
+use Rattle.np_records.specs.Rows.{is_kind}
+use Rattle.net_csv.specs.Network.{is_flow, kind_in, bounds_place, defined_nodes, defined_flows, flows_of}
 
--- ---- bounds, ends and bands
-
-abbrev pub is_at_most : Ratio → Upper → Bool
-is_at_most amount (Finite u) = not (is_below u amount)
-is_at_most amount Infinite = true
-
--- the upper bound is above 0
-abbrev pub is_wide : Upper → Bool
-is_wide (Finite u) = is_below zero_ratio u
-is_wide Infinite = true
-
-abbrev pub is_finite : Upper → Bool
-is_finite (Finite u) = true
-is_finite Infinite = false
+-- ---- the end of a flow
 
 abbrev pub last_band : Flow → Option Band
 last_band flow = slice_get flow.bands (length flow.bands - 1)
@@ -114,7 +103,7 @@ abbrev pub band_fault : ℕ → ℕ → Band → Flow → Option Code
 band_fault periods arcs band flow =
     first_fault (
     unless (has_finite_end flow) code.PieceAfterInfinite
-    ∷ unless (is_wide band.width) code.BadBounds
+    ∷ unless (is_under zero_ratio band.width) code.BadBounds
     ∷ unless (not (is_below band.slope (present_slope flow))) code.NotConvex
     ∷ arcs_fault (arcs + periods_of periods flow.kind)
     ∷ [])
@@ -144,4 +133,4 @@ record_fault periods nodes names arcs flows r =
 -- a record of the body behind these, where it is not `end`
 abbrev pub body_fault : ℕ → List (List (List ℕ)) → List (List ℕ) → Option Code
 body_fault periods before r =
-    record_fault periods (node_names before) (flow_names before) (expanded_arcs periods (flows_of before)) (flows_of before) r
+    record_fault periods (defined_nodes before) (defined_flows before) (expanded_arcs periods (flows_of before)) (flows_of before) r

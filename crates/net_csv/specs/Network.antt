@@ -2,22 +2,19 @@
 use Rattle.std.specs.Prelude.{ℕ, ◌+◌, ◌/◌, ◌%◌, ◌==◌, ◌&&◌, ◌||◌, Bool, true, Option, Some, None, unwrap_or, option_map, List, [], ◌∷◌, codes, if◌then◌else◌}
 use Rattle.std.specs.List.{filter_map}
 use Rattle.std.specs.Option.{option_or, option_map_or}
-use Rattle.std.specs.Str.{bytes_eq}
 use Rattle.np_frac.specs.Ratio.{Ratio, zero_ratio}
 use Rattle.np_frac.specs.Amount.{amount_of}
-use Rattle.np_records.specs.Names.{place_of}
+use Rattle.np_records.specs.Names.{place_of, place_in}
+use Rattle.np_records.specs.Rows.{is_kind}
 use Rattle.np_records.specs.Records.{field_of}
 use Rattle.np_model.specs.declared.scheme.FlowKind.{FlowKind}
 use Rattle.np_model.specs.declared.scheme.FlowKind.TheVariants.{Link, Hold, Drain, Feed}
 use Rattle.np_model.specs.declared.scheme.Band.{Band}
 use Rattle.np_model.specs.declared.scheme.Flow.{Flow}
 use Rattle.net_csv.specs.declared.given.Given.{Given}
-use Rattle.net_csv.specs.Fields.{upper_of, period_of, place_in}
+use Rattle.net_csv.specs.Fields.{upper_of, period_of}
 
 -- ---- kinds of record
-
-abbrev pub is_kind : List (List ℕ) → List ℕ → Bool
-is_kind r word = bytes_eq (field_of r 0) word
 
 abbrev pub is_flow : List (List ℕ) → Bool
 is_flow r = is_kind r (codes "arc") || is_kind r (codes "hold") || is_kind r (codes "drain") || is_kind r (codes "feed")
@@ -30,11 +27,11 @@ defined_node r = if is_kind r (codes "node") then Some (field_of r 1) else None
 abbrev pub defined_flow : List (List ℕ) → Option (List ℕ)
 defined_flow r = if is_flow r then Some (field_of r 1) else None
 
-abbrev pub node_names : List (List (List ℕ)) → List (List ℕ)
-node_names rows = filter_map defined_node rows
+abbrev pub defined_nodes : List (List (List ℕ)) → List (List ℕ)
+defined_nodes rows = filter_map defined_node rows
 
-abbrev pub flow_names : List (List (List ℕ)) → List (List ℕ)
-flow_names rows = filter_map defined_flow rows
+abbrev pub defined_flows : List (List (List ℕ)) → List (List ℕ)
+defined_flows rows = filter_map defined_flow rows
 
 -- ---- supplies
 
@@ -55,7 +52,7 @@ last_given (given ∷ later) node period =
     option_or (last_given later node period) (if covers given node period then Some given.amount else None)
 
 abbrev pub supplies_of : List (List (List ℕ)) → List Given
-supplies_of rows = filter_map (given_in (node_names rows)) rows
+supplies_of rows = filter_map (given_in (defined_nodes rows)) rows
 
 -- where these amounts are given, the supply at a place of the scheme: with n nodes, node i in period P stands at (P - 1) * n + i;
 -- 0 where none is given
@@ -98,10 +95,10 @@ piece_in names r =
     else None
 
 abbrev pub heads_of : List (List (List ℕ)) → List Flow
-heads_of rows = filter_map (head_in (node_names rows)) rows
+heads_of rows = filter_map (head_in (defined_nodes rows)) rows
 
 abbrev pub pieces_of : List (List (List ℕ)) → List (ℕ × Band)
-pieces_of rows = filter_map (piece_in (flow_names rows)) rows
+pieces_of rows = filter_map (piece_in (defined_flows rows)) rows
 
 -- the bands of a flow, in order
 abbrev pub bands_at : List (ℕ × Band) → ℕ → List Band

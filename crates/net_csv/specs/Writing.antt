@@ -1,5 +1,5 @@
 -- The records of the text of a scheme.
-use Rattle.std.specs.Prelude.{ℕ, ◌+◌, ◌/◌, ◌%◌, Option, Some, None, List, [], ◌∷◌, ◌++◌, length, map, codes, slice_index_or, decimal, if◌then◌else◌}
+use Rattle.std.specs.Prelude.{ℕ, ◌+◌, ◌/◌, ◌%◌, Option, Some, None, List, [], ◌∷◌, ◌++◌, length, map, codes, decimal, if◌then◌else◌}
 use Rattle.std.specs.List.{filter_map, flat_map, enumerate_from}
 use Rattle.np_frac.specs.Ratio.{Ratio, zero_ratio}
 use Rattle.np_frac.specs.Order.{ratio_eq}
@@ -10,11 +10,8 @@ use Rattle.np_model.specs.declared.scheme.FlowKind.TheVariants.{Link, Hold, Drai
 use Rattle.np_model.specs.declared.scheme.Band.{Band}
 use Rattle.np_model.specs.declared.scheme.Flow.{Flow}
 use Rattle.np_model.specs.declared.scheme.Scheme.{Scheme}
+use Rattle.np_model.specs.Scheme.Names.{name_at}
 use Rattle.net_csv.specs.AmountText.{amount_text}
-
--- the name of the node with this number
-abbrev pub name_at : List (List ℕ) → ℕ → List ℕ
-name_at nodes number = slice_index_or nodes number []
 
 abbrev pub upper_text : Upper → List ℕ
 upper_text (Finite u) = amount_text u

@@ -4,23 +4,21 @@ ghost use Rattle.std.specs.Prelude.{◌≡◌, ◌+◌, ◌++◌, ◌∷◌, ◌
 ghost use Rattle.std.specs.Option.{option_and_then, option_map_or};
 ghost use Rattle.csv.specs.Records.{fields_of};
 ghost use Rattle.np_records.specs.Names.{place_of};
-ghost use Rattle.np_model.specs.Valid.{periods_of};
+ghost use Rattle.np_model.specs.Scheme.Kinds.{periods_of};
 ghost use Rattle.net_csv.specs.declared.refused.Stop.{Stop};
 ghost use Rattle.np_records.specs.Faults.{Reads};
 ghost use Rattle.net_csv.specs.Faults.{node_fault, supply_fault, head_fault, flow_fault, piece_fault, band_fault, record_fault, has_finite_end, present_slope};
-ghost use Rattle.net_csv.specs.Tables.{HasRoom, IsMadeOf, IsReady, Takes, head_of, no_tables, plain_flow, flow_added, band_added, banded, with_node, with_supply, with_flow, with_piece, with_record};
+ghost use Rattle.net_csv.specs.Steps.Tables.{HasRoom, IsMadeOf, IsReady, TakesRecord, head_of, no_tables, plain_flow, flow_added, band_added, banded, with_node, with_supply, with_flow, with_piece, with_record};
 
 use crate::fields::{amount, fields, new_name, period, upper, used_name};
 use crate::given::Given;
-use crate::kinds::{bounds_place, ends, flow_kind, is_flow, is_kind};
-use crate::numbers::{
-    Numbers, bounds, is_finite, is_wide, periods_of, read_numbers, room_of_arcs, room_of_nodes,
-};
+use crate::kinds::{bounds_place, ends, flow_kind, is_flow};
+use crate::numbers::{Numbers, arcs_of, bounds, read_numbers, room_of_arcs, room_of_nodes};
 use crate::refused::{Code, Stop};
 use crate::supply::supply_of;
 use np_frac::{Frac, Memory};
 use np_model::{Band, Bands, Flow, FlowKind, Flows, Name, Names, Scheme, Upper};
-use np_records::{ByteRecord, NameTable, field};
+use np_records::{ByteRecord, NameTable, field, is_kind};
 use std::alloc::Global;
 use std::marker::Model;
 
@@ -37,7 +35,7 @@ pub(crate) struct Draft {
 }
 
 impl Model for Draft {
-    ghost use Rattle.net_csv.specs.Tables.{Tables};
+    ghost use Rattle.net_csv.specs.Steps.Tables.{Tables};
 
     ghost Value = { Tables };
 
@@ -82,8 +80,8 @@ fn has_finite_end(flow: &Flow) -> bool
     ensures { result ≡ has_finite_end flow.now }
 {
     match flow.bands.items.last() {
-        Some(band) => is_finite(&band.width),
-        None => is_finite(&flow.upper),
+        Some(band) => band.width.is_finite(),
+        None => flow.upper.is_finite(),
     }
 }
 
@@ -105,13 +103,13 @@ fn test_band(periods: u32, arcs: usize, band: &Band, flow: &Flow) -> Result<usiz
     if !has_finite_end(flow) {
         return Err(Code::PieceAfterInfinite);
     }
-    if !is_wide(&band.width) {
+    if !band.width.is_above(Frac::whole(0)) {
         return Err(Code::BadBounds);
     }
     if band.slope.is_below(present_slope(flow)) {
         return Err(Code::NotConvex);
     }
-    let arcs = arcs + periods_of(periods, &flow.kind);
+    let arcs = arcs + arcs_of(periods, &flow.kind);
     room_of_arcs(arcs)?;
     Ok(arcs)
 }
@@ -139,10 +137,10 @@ impl Draft {
         }
     }
 
-    // Takes a node record.
+    // TakesRecord a node record.
     fn node(&mut self, alloc: Global, row: &ByteRecord) -> Result<(), Stop>
         requires { HasRoom self.old }
-        ensures { Takes result (node_fault self.old.periods self.old.nodes (fields_of row.now)) self.new
+        ensures { TakesRecord result (node_fault self.old.periods self.old.nodes (fields_of row.now)) self.new
             (with_node self.old (fields_of row.now)) }
     {
         fields(row, 2)?;
@@ -161,10 +159,10 @@ impl Draft {
         Ok(())
     }
 
-    // Takes a supply record.
+    // TakesRecord a supply record.
     fn supply(&mut self, row: &ByteRecord) -> Result<(), Stop>
         requires { HasRoom self.old }
-        ensures { Takes result (supply_fault self.old.periods self.old.nodes (fields_of row.now)) self.new
+        ensures { TakesRecord result (supply_fault self.old.periods self.old.nodes (fields_of row.now)) self.new
             (with_supply self.old (fields_of row.now)) }
     {
         fields(row, 4)?;
@@ -217,15 +215,15 @@ impl Draft {
         Ok(Head { kind, numbers })
     }
 
-    // Takes the record of a flow.
+    // TakesRecord the record of a flow.
     fn flow(&mut self, alloc: Global, row: &ByteRecord) -> Result<(), Stop>
         requires { HasRoom self.old }
-        ensures { Takes result (flow_fault self.old.periods self.old.nodes self.old.names self.old.arcs (fields_of row.now)) self.new
+        ensures { TakesRecord result (flow_fault self.old.periods self.old.nodes self.old.names self.old.arcs (fields_of row.now)) self.new
             (with_flow self.old (fields_of row.now)) }
     {
         let name = field(row, 1);
         let head = self.read_head(row)?;
-        let arcs = self.arcs + periods_of(self.periods, &head.kind);
+        let arcs = self.arcs + arcs_of(self.periods, &head.kind);
         room_of_arcs(arcs)?;
         let flow = plain_flow(alloc, name, head)?;
         self.push_flow(alloc, name, flow, arcs)?;
@@ -236,7 +234,7 @@ impl Draft {
     fn band(&mut self, place: usize, band: Band) -> Result<(), Stop>
         requires room { HasRoom self.old }
         requires within { place < length self.old.flows }
-        ensures { Takes result (option_and_then (band_fault self.old.periods self.old.arcs band) (slice_get self.old.flows place)) self.new
+        ensures { TakesRecord result (option_and_then (band_fault self.old.periods self.old.arcs band) (slice_get self.old.flows place)) self.new
             (option_map_or (band_added self.old place band) (slice_get self.old.flows place) self.old) }
     {
         let arcs = test_band(self.periods, self.arcs, &band, &self.flows[place])?;
@@ -245,10 +243,10 @@ impl Draft {
         Ok(())
     }
 
-    // Takes a piece record.
+    // TakesRecord a piece record.
     fn piece(&mut self, row: &ByteRecord) -> Result<(), Stop>
         requires { HasRoom self.old }
-        ensures { Takes result (piece_fault self.old.periods self.old.names self.old.arcs self.old.flows (fields_of row.now)) self.new
+        ensures { TakesRecord result (piece_fault self.old.periods self.old.names self.old.arcs self.old.flows (fields_of row.now)) self.new
             (with_piece self.old (fields_of row.now)) }
     {
         fields(row, 4)?;
@@ -258,10 +256,10 @@ impl Draft {
         self.band(place, Band { width, slope })
     }
 
-    /// Takes a record of the body, other than `end`.
+    /// TakesRecord a record of the body, other than `end`.
     pub(crate) fn take(&mut self, alloc: Global, row: &ByteRecord) -> Result<(), Stop>
         requires { HasRoom self.old }
-        ensures { Takes result (record_fault self.old.periods self.old.nodes self.old.names self.old.arcs self.old.flows (fields_of row.now)) self.new
+        ensures { TakesRecord result (record_fault self.old.periods self.old.nodes self.old.names self.old.arcs self.old.flows (fields_of row.now)) self.new
             (with_record self.old (fields_of row.now)) }
     {
         if is_kind(row, b"node") {

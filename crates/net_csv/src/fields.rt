@@ -5,14 +5,17 @@ ghost use Rattle.std.specs.List.{list_all};
 ghost use Rattle.np_frac.specs.Ratio.{zero_ratio};
 ghost use Rattle.np_frac.specs.Text.{number};
 ghost use Rattle.np_frac.specs.Amount.{amount_of, is_amount};
-ghost use Rattle.np_records.specs.Names.{place_of};
-ghost use Rattle.np_model.specs.Valid.{is_graphic, is_name, is_amount_or_infinite};
+ghost use Rattle.np_records.specs.Names.{place_of, place_in};
+ghost use Rattle.std.specs.Char.{is_ascii_graphic};
+ghost use Rattle.np_model.specs.Scheme.Names.{is_name};
+ghost use Rattle.np_model.specs.Scheme.Valid.{is_amount_or_infinite};
 ghost use Rattle.csv.specs.Records.{fields_of};
 ghost use Rattle.np_records.specs.Faults.{Reads};
-ghost use Rattle.net_csv.specs.Fields.{is_period, amount_fault, upper_fault, upper_of, gain_fault, period_fault, period_of, new_fault, used_fault, place_in, fields_fault};
+ghost use Rattle.np_records.specs.Rows.{is_period};
+ghost use Rattle.net_csv.specs.Fields.{amount_fault, upper_fault, upper_of, gain_fault, period_fault, period_of, new_fault, used_fault, fields_fault};
 
 use crate::refused::Code;
-use np_frac::{Frac, read_amount, read_number};
+use np_frac::{Frac, read_amount};
 use np_model::Upper;
 use np_records::{ByteRecord, NameTable};
 
@@ -47,18 +50,6 @@ pub(crate) fn gain(bytes: &[u8]) -> Result<Frac, Code>
     Ok(gain)
 }
 
-/// A period from 1 to `most`, in 1 to 9 digits.
-pub(crate) fn whole_period(most: u32, bytes: &[u8]) -> Option<u32>
-    ensures { result ≡ (if is_period most bytes.now then Some (number bytes.now) else None) }
-{
-    match read_number(bytes, 9) {
-        None => None,
-        Some(period) if period < 1 => None,
-        Some(period) if u64::from(most) < period => None,
-        Some(period) => Some(period as u32),
-    }
-}
-
 /// The period of a supply, or `None` for every period.
 pub(crate) fn period(periods: u32, bytes: &[u8]) -> Result<Option<u32>, Code>
     ensures { Reads result (period_fault periods bytes.now) (period_of bytes.now) }
@@ -66,17 +57,17 @@ pub(crate) fn period(periods: u32, bytes: &[u8]) -> Result<Option<u32>, Code>
     if bytes == b"*".as_slice() {
         return Ok(None);
     }
-    match whole_period(periods, bytes) {
+    match np_records::period(periods, bytes) {
         Some(period) => Ok(Some(period)),
         None => Err(Code::BadPeriod),
     }
 }
 
 // Whether each byte prints and is no space.
-fn is_graphic(bytes: &[u8]) -> bool
-    ensures { result ≡ list_all is_graphic bytes.now }
+fn are_graphic(bytes: &[u8]) -> bool
+    ensures { result ≡ list_all is_ascii_graphic bytes.now }
 {
-    bytes.iter().all(|byte| 33 <= *byte && *byte <= 126)
+    bytes.iter().all(|byte| byte.is_ascii_graphic())
 }
 
 // Whether these bytes are a name.
@@ -87,7 +78,7 @@ fn is_name(bytes: &[u8]) -> bool
     if size == 0 || 64 < size {
         return false;
     }
-    is_graphic(bytes)
+    are_graphic(bytes)
 }
 
 /// Looks whether a name may be defined.

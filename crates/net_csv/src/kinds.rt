@@ -3,20 +3,14 @@
 ghost use Rattle.std.specs.Prelude.{◌≡◌, ◌≤◌, ◌&&◌, IfOk, length, codes};
 ghost use Rattle.csv.specs.Records.{fields_of};
 ghost use Rattle.np_records.specs.Faults.{Reads};
-ghost use Rattle.net_csv.specs.Network.{is_kind, is_flow, kind_in, bounds_place};
+ghost use Rattle.np_records.specs.Rows.{is_kind};
+ghost use Rattle.net_csv.specs.Network.{is_flow, kind_in, bounds_place};
 ghost use Rattle.net_csv.specs.Faults.{kind_fault, ends_fault};
 
 use crate::fields::{gain, used_name};
 use crate::refused::Code;
 use np_model::FlowKind;
-use np_records::{ByteRecord, NameTable, field};
-
-// Whether the record has this word as its first field.
-pub(crate) fn is_kind(row: &ByteRecord, word: &[u8]) -> bool
-    ensures { result ≡ is_kind (fields_of row.now) word.now }
-{
-    field(row, 0) == word
-}
+use np_records::{ByteRecord, NameTable, field, is_kind};
 
 /// Whether the record gives a flow.
 pub(crate) fn is_flow(row: &ByteRecord) -> bool

@@ -3,11 +3,13 @@
 ghost use Rattle.std.specs.Prelude.{◌≡◌, ◌<◌, ◌≤◌, ◌+◌, ◌*◌, ◌&&◌, true, IfOk, nat_le, not, length};
 ghost use Rattle.csv.specs.Records.{fields_of};
 ghost use Rattle.np_frac.specs.Amount.{is_amount};
-ghost use Rattle.np_model.specs.Valid.{periods_of, is_amount_or_infinite};
+ghost use Rattle.np_model.specs.Scheme.Kinds.{periods_of};
+ghost use Rattle.np_model.specs.Scheme.Valid.{is_amount_or_infinite};
 ghost use Rattle.net_csv.specs.declared.refused.Code.TheVariants as code;
 ghost use Rattle.np_records.specs.Faults.{Reads, unless};
-ghost use Rattle.net_csv.specs.Faults.{is_at_most, is_wide, is_finite, numbers_fault, nodes_fault, arcs_fault};
-ghost use Rattle.net_csv.specs.Tables.{numbers_of};
+ghost use Rattle.np_model.specs.Network.Arcs.{is_at_most};
+ghost use Rattle.net_csv.specs.Faults.{numbers_fault, nodes_fault, arcs_fault};
+ghost use Rattle.net_csv.specs.Steps.Tables.{numbers_of};
 
 use crate::fields::{amount, upper};
 use crate::refused::Code;
@@ -39,54 +41,21 @@ pub(crate) fn read_numbers(row: &ByteRecord, place: usize) -> Result<Numbers, Co
     Ok(Numbers { lower, upper, cost })
 }
 
-// Whether the amount is at most the bound.
-fn is_at_most(amount: Frac, upper: &Upper) -> bool
-    ensures { result ≡ is_at_most amount upper.now }
-{
-    match upper {
-        Upper::Finite(bound) => !bound.is_below(amount),
-        Upper::Infinite => true,
-    }
-}
-
 /// Looks whether the lower bound is at most the upper one.
 pub(crate) fn bounds(numbers: &Numbers) -> Result<(), Code>
     ensures { Reads result (unless (is_at_most numbers.now.lower numbers.now.upper) code.BadBounds) tt }
 {
-    if !is_at_most(numbers.lower, &numbers.upper) {
+    if !numbers.upper.is_at_least(numbers.lower) {
         return Err(Code::BadBounds);
     }
     Ok(())
 }
 
-/// Whether the width is above 0.
-pub(crate) fn is_wide(width: &Upper) -> bool
-    ensures { result ≡ is_wide width.now }
-{
-    match width {
-        Upper::Finite(width) => Frac::whole(0).is_below(*width),
-        Upper::Infinite => true,
-    }
-}
-
-/// Whether there is a bound.
-pub(crate) fn is_finite(upper: &Upper) -> bool
-    ensures { result ≡ is_finite upper.now }
-{
-    match upper {
-        Upper::Finite(_) => true,
-        Upper::Infinite => false,
-    }
-}
-
-/// In how many of so many periods a flow has an arc.
-pub(crate) fn periods_of(periods: u32, kind: &FlowKind) -> usize
+/// How many arcs a flow of this kind has over so many periods, without bands.
+pub(crate) fn arcs_of(periods: u32, kind: &FlowKind) -> usize
     ensures { result ≡ periods_of periods kind.now }
 {
-    match kind {
-        FlowKind::Hold { .. } => periods.saturating_sub(1) as usize,
-        _ => periods as usize,
-    }
+    kind.periods(periods) as usize
 }
 
 /// Looks whether so many nodes are not too many.

@@ -6,16 +6,16 @@ ghost use Rattle.np_frac.specs.Text.{number};
 ghost use Rattle.np_records.specs.Records.{field_of, records_of};
 ghost use Rattle.net_csv.specs.declared.refused.Code.TheVariants as code;
 ghost use Rattle.np_records.specs.Faults.{Reads, unless};
-ghost use Rattle.net_csv.specs.Tables.{HasRoom, IsReady, TakesRow};
+ghost use Rattle.net_csv.specs.Steps.Tables.{HasRoom, IsReady, TakesRow};
 ghost use Rattle.net_csv.specs.Grammar.{is_header, periods_fault, read_records};
-ghost use Rattle.net_csv.specs.Reading.{IsHeadRead, IsTextRead, IsWholeRead, IsRefusal, ReadsScheme, RefusesAt};
+ghost use Rattle.net_csv.specs.Reading.{IsRefusal, ReadsScheme};
+ghost use Rattle.net_csv.specs.Steps.Reading.{IsHeadRead, IsTextRead, IsWholeRead, RefusesAt};
 
 use crate::draft::Draft;
-use crate::fields::{fields, whole_period};
-use crate::kinds::is_kind;
+use crate::fields::fields;
 use crate::refused::{Code, Refused, Stop, Tail};
 use np_model::Scheme;
-use np_records::{ByteRecord, Records, field};
+use np_records::{ByteRecord, Records, field, is_kind, period};
 use std::alloc::Global;
 
 const MAX_PERIODS: u32 = 20_000;
@@ -43,7 +43,7 @@ fn read_periods(row: &ByteRecord) -> Result<u32, Code>
         return Err(Code::Header);
     }
     fields(row, 2)?;
-    match whole_period(MAX_PERIODS, field(row, 1)) {
+    match period(MAX_PERIODS, field(row, 1)) {
         Some(periods) => Ok(periods),
         None => Err(Code::BadPeriod),
     }

@@ -4,8 +4,8 @@ ghost use Rattle.std.specs.Prelude.{◌≡◌, ◌*◌, ◌<◌, ◌≤◌, ◌�
 ghost use Rattle.std.specs.List.{All, range_with_len};
 ghost use Rattle.net_csv.specs.declared.given.Given.{Given as TheGiven};
 ghost use Rattle.net_csv.specs.Network.{supply_from};
-ghost use Rattle.net_csv.specs.Tables.{IsGiven};
-ghost use Rattle.net_csv.specs.Supply.{HasPlaces, IsFilled};
+ghost use Rattle.net_csv.specs.Steps.Tables.{IsGiven};
+ghost use Rattle.net_csv.specs.Steps.Supply.{HasSupplyPlaces, IsFilled};
 
 use crate::given::Given;
 use np_frac::{Frac, Memory};
@@ -26,7 +26,7 @@ struct Amounts {
 impl Amounts {
     // Takes an amount that is given before all those that were taken: it counts where none of them covers its place.
     fn take(&mut self, given: &Given)
-        requires places { HasPlaces self.old }
+        requires places { HasSupplyPlaces self.old }
         requires given { IsGiven self.old.nodes self.old.periods given.now }
         ensures filled { (later : List TheGiven) → IsFilled self.old later → IsFilled self.new (given.now ∷ later) }
         ensures periods { self.new.periods ≡ self.old.periods }
@@ -49,7 +49,7 @@ impl Amounts {
 
     // The amount at a place: what is given there, else what is given in every period, else 0.
     fn at(&self, place: usize) -> Frac
-        requires places { HasPlaces self.now }
+        requires places { HasSupplyPlaces self.now }
         requires within { place < self.now.periods * self.now.nodes }
         ensures { (supplies : List TheGiven) → IsFilled self.now supplies → result ≡ supply_from self.now.nodes supplies place }
     {

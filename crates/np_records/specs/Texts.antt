@@ -20,9 +20,10 @@ record_text fields = row_text output_writer fields
 abbrev pub records_text : List (List (List ℕ)) → List ℕ
 records_text rows = flat_map record_text rows
 
--- a text that is being written: its bytes so far, and whether a write failed
+-- a text that is being written: the bytes of its records so far, the fields of the record that is open, and whether a write failed
 pub record Written : Type 0 where
   pub bytes : List ℕ
+  pub fields : List (List ℕ)
   pub failed : Bool
 
 -- what a writer has written so far

@@ -75,13 +75,4 @@ impl NameTable {
         self.names.insert(name)?;
         Ok(())
     }
-
-    /// The names in order. `Memory` comes where memory ran out.
-    pub fn into_names(self, alloc: Global) -> Result<Vec<Vec<u8>>, Memory>
-        ensures { IfOk result (λ names. map (λ name. name.items) names.items ≡ self) }
-    {
-        let NameTable { names } = self;
-        let list = names.into_iter().collect(alloc)?;
-        Ok(list)
-    }
 }

@@ -1,7 +1,9 @@
 ghost use Rattle.std.specs.Prelude.{◌≡◌, ◌+◌, ◌*◌, true, IfOk, length, map, codes};
 ghost use Rattle.std.specs.List.{AllPass, All};
 ghost use Rattle.np_frac.specs.Amount.{is_amount};
-ghost use Rattle.np_model.specs.Valid.{AreNames, IsSound, periods_of, expanded_arcs};
+ghost use Rattle.np_model.specs.Scheme.Names.{AreNames};
+ghost use Rattle.np_model.specs.Scheme.Valid.{IsSound, expanded_arcs};
+ghost use Rattle.np_model.specs.Scheme.Kinds.{periods_of};
 
 use super::*;
 use np_frac::read_amount;

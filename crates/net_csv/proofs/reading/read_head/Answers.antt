@@ -1,5 +1,4 @@
-use Rattle.std.proofs.Common.{rules, ◌≡◌, ◌∷◌}
-use Rattle.std.proofs.Common.{Some, None}
+use Rattle.std.proofs.Common.{rules, ◌≡◌, ◌∷◌, Some, None}
 use Rattle.csv.specs.Records.{fields_of}
 use Rattle.np_records.specs.Faults.{unless}
 use Rattle.net_csv.specs.Grammar.{is_header, periods_fault}

@@ -1,5 +1,5 @@
 use Rattle.std.proofs.Common.{subst, sym}
-use Rattle.net_csv.specs.Tables.{IsReady}
+use Rattle.net_csv.specs.Steps.Tables.{IsReady}
 use Rattle.net_csv.proofs.SchemeValid.{parts-valid}
 use Rattle.net_csv.proofs.draft.Draft.into_scheme.Goals as goal
 

@@ -1,7 +1,8 @@
 use Rattle.std.proofs.Common.{rules, ◌≡◌, None}
 use Rattle.csv.specs.Records.{fields_of}
 use Rattle.np_records.specs.Records.{field_of}
-use Rattle.net_csv.specs.Fields.{fields_fault, used_fault, upper_fault, amount_fault, place_in}
+use Rattle.net_csv.specs.Fields.{fields_fault, used_fault, upper_fault, amount_fault}
+use Rattle.np_records.specs.Names.{place_in}
 use Rattle.net_csv.specs.Faults.{band_of}
 use Rattle.net_csv.proofs.TakeFacts.{takes-last}
 use Rattle.net_csv.proofs.draft.Draft.piece.Goals as goal
