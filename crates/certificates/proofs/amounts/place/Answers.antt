@@ -1,6 +1,6 @@
 use Rattle.std.proofs.Common.{◌≤◌, ◌<◌, ◌-◌, ◌*◌, ◌^◌, length, arith}
 use Rattle.std.proofs.Math.Nat.{mul-le-mul_right}
-use Rattle.certificates.proofs.draft.place.Goals as goal
+use Rattle.certificates.proofs.amounts.place.Goals as goal
 
 pub overflow_mul-result : goal.overflow_mul-result
 overflow_mul-result c =

@@ -19,7 +19,7 @@ fn with_pivots(alloc: Global, count: usize) -> Result<Draft, Memory>
         cost: None,
         gap: None,
         arc: None,
-        passed: None,
+        overflow: None,
         flows: Vec::new(alloc),
         prices: Vec::new(alloc),
         ray: Vec::new(alloc),
@@ -47,6 +47,6 @@ fn too_many_pivots(rt: HostRuntime) -> Result<(), Fail> {
     let last = pivot_behind(alloc, 999_999, "pivot,1000000,0,0,lower")?;
     assert!(rt; last == Ok(()));
     let more = pivot_behind(alloc, 1_000_000, "pivot,1000001,0,0,lower")?;
-    assert!(rt; more == Err(Stop::Fault(Code::BadNumber)));
+    assert!(rt; more == Err(Stop::Fault(PlanCode::BadNumber)));
     Ok(())
 }

@@ -1,7 +1,7 @@
 use Rattle.std.proofs.Common.{◌≡◌, ◌++◌, take}
 use Rattle.std.specs.List.{filter_map, enumerate_from}
-use Rattle.certificates.specs.Reading.{amount_in}
-use Rattle.certificates.proofs.draft.push_period.Given as goal
+use Rattle.certificates.specs.Steps.Amounts.{amount_in}
+use Rattle.certificates.proofs.amounts.push_period.Given as goal
 
 abbrev pub invariant-loop-number : goal.invariant-loop-number
 invariant-loop-number l =

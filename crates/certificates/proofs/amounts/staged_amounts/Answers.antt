@@ -1,8 +1,8 @@
 use Rattle.period_expand.proofs.Grows.{periods_more}
 use Rattle.std.proofs.Common.{rules}
-use Rattle.certificates.specs.Reading.{period_amounts}
+use Rattle.certificates.specs.Steps.Amounts.{period_amounts}
 use Rattle.certificates.proofs.PeriodAmounts.{staged-by-period}
-use Rattle.certificates.proofs.draft.staged_amounts.Goals as goal
+use Rattle.certificates.proofs.amounts.staged_amounts.Goals as goal
 
 pub loop-before-preserved : goal.loop-before-preserved
 loop-before-preserved c =

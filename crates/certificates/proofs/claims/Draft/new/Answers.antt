@@ -1,7 +1,7 @@
 use Rattle.std.proofs.Common.{ap, [], ◌∙◌}
 use Rattle.certificates.specs.Claims.{Outline, claims_of}
 use Rattle.certificates.proofs.NewClaims.{new-claims}
-use Rattle.certificates.proofs.draft.Draft.new.Goals as goal
+use Rattle.certificates.proofs.claims.Draft.new.Goals as goal
 
 pub returns : goal.returns
 returns c =

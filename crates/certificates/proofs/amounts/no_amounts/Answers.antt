@@ -1,6 +1,6 @@
 use Rattle.std.proofs.Common.{◌≤◌, ◌<◌, ◌*◌, ◌^◌, length, arith}
 use Rattle.std.proofs.Math.Nat.{mul-le-mul_left}
-use Rattle.certificates.proofs.draft.no_amounts.Goals as goal
+use Rattle.certificates.proofs.amounts.no_amounts.Goals as goal
 
 pub overflow_mul-len : goal.overflow_mul-len
 overflow_mul-len c =

@@ -1,9 +1,9 @@
 use Rattle.std.proofs.Common.{rules, refl, ◌≡◌, ◌++◌, []}
 use Rattle.std.specs.List.{cons_option}
-use Rattle.certificates.specs.Reading.{amount_in}
+use Rattle.certificates.specs.Steps.Amounts.{amount_in}
 use Rattle.period_expand.proofs.Grows.{flows_more, pushed, not_pushed}
-use Rattle.certificates.proofs.draft.push_period.Goals as goal
-use Rattle.certificates.proofs.draft.push_period.Goals.{in-Some+in_ok-push-in-Some, in-None}
+use Rattle.certificates.proofs.amounts.push_period.Goals as goal
+use Rattle.certificates.proofs.amounts.push_period.Goals.{in-Some+in_ok-push-in-Some, in-None}
 
 pub loop-number-preserved : goal.loop-number-preserved
 loop-number-preserved c =
