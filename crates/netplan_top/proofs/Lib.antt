@@ -1,8 +1,10 @@
 pub mod WordFacts
+pub mod TextFacts
 pub mod AnswerFacts
 pub mod RunFacts
 pub mod NetFacts
 pub mod InputFacts
 pub mod OneReading
 pub mod OneAnswer
+pub mod SomeAnswer
 pub mod WrittenInput

@@ -199,21 +199,21 @@ command_runs words command io status named ends = record {
 pub usage_runs : (words : List (String Global)) (io : Streams) (status : ℕ) → ¬ (IsCommand words) → IsPrinted usage_text 6 status io.sink_faults io.sink_faults' io.sure io.written io.written' → IsRun words io status
 usage_runs words io status none printed =
     let ended : (status ≡ 6) ⊎ (status ≡ 8) = elim printed [ inl all ↦ inl all.0 | inr part ↦ inr part.0 ] in
-    let other : {claim : Type 0} (own : ℕ) → own ≢ 6 → own ≢ 8 → status ≡ own → claim = λ own a b e. absurd (elim ended [ inl is ↦ a (sym e ∙ is) | inr is ↦ b (sym e ∙ is) ]) in
+    let other : (own : ℕ) → own ≢ 6 → own ≢ 8 → status ≡ own → ⊥ = λ own a b e. elim ended [ inl is ↦ a (sym e ∙ is) | inr is ↦ b (sym e ∙ is) ] in
     record {
       no_command = λ _. ended;
       usage = λ e. (none, elim printed [ inl all ↦ all.1 | inr part ↦ absurd (let is = part.0 in omega arith) ]);
       accepted = λ named e. absurd (none (Check, named));
-      overflowed = other 4 (λ h. omega arith) (λ h. omega arith);
-      rejected = other 10 (λ h. omega arith) (λ h. omega arith);
+      overflowed = λ e. absurd (other 4 (λ h. omega arith) (λ h. omega arith) e);
+      rejected = λ e. absurd (other 10 (λ h. omega arith) (λ h. omega arith) e);
       refused = λ named e. absurd (none (Check, named));
       expanded = λ named e. absurd (none (Expand, named));
       not_expanded = λ named e. absurd (none (Expand, named));
-      unread_rest = other 7 (λ h. omega arith) (λ h. omega arith);
+      unread_rest = λ e. absurd (other 7 (λ h. omega arith) (λ h. omega arith) e);
       cut = λ e. elim printed [
         | inl all ↦ absurd (let is = all.0 in omega arith)
         | inr part ↦ record { text = usage_text; is_allowed = inl (none, refl); rose = part.1; part = part.2; unsure = part.3 }
       ];
-      no_memory = other 9 (λ h. omega arith) (λ h. omega arith);
+      no_memory = λ e. absurd (other 9 (λ h. omega arith) (λ h. omega arith) e);
       known = elim ended [ inl is ↦ inr (inr (inr (inl is))) | inr is ↦ inr (inr (inr (inr (inr (inl is))))) ];
     }

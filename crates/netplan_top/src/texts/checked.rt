@@ -13,7 +13,6 @@ use std::alloc::Global;
 const KIND: &[u8] = b"netplan-check";
 
 // The text that accepts a plan with this word, and its cost or its gap.
-#[tactic(auto, unfolding(crate::specs::Texts::Frame::framed_text))]
 fn accepted_with(alloc: Global, word: &[u8], amount: Frac) -> Result<Vec<u8>, Memory>
     ensures { IfOk result (λ text. text.items ≡ check_text (codes "accepted" ∷ word.now ∷ printed amount ∷ [])) }
 {
@@ -24,7 +23,6 @@ fn accepted_with(alloc: Global, word: &[u8], amount: Frac) -> Result<Vec<u8>, Me
     ended(text)
 }
 
-#[tactic(auto, unfolding(crate::specs::Texts::Frame::framed_text))]
 fn accepted_unbounded(alloc: Global) -> Result<Vec<u8>, Memory>
     ensures { IfOk result (λ text. text.items ≡ check_text (codes "accepted" ∷ codes "unbounded" ∷ [])) }
 {
@@ -57,7 +55,6 @@ fn name_of(scheme: &Scheme, clause: Clause, index: usize) -> &[u8]
 }
 
 // The line of a clause of a whole plan.
-#[tactic(auto, unfolding(crate::specs::Texts::Frame::framed_text))]
 fn rejected_whole(alloc: Global, word: &[u8]) -> Result<Vec<u8>, Memory>
     ensures { IfOk result (λ text. text.items ≡ check_text (codes "rejected" ∷ word.now ∷ [])) }
 {
@@ -68,7 +65,6 @@ fn rejected_whole(alloc: Global, word: &[u8]) -> Result<Vec<u8>, Memory>
 }
 
 // The line of a clause with a place.
-#[tactic(auto, unfolding(crate::specs::Texts::Frame::framed_text))]
 fn rejected_at(alloc: Global, word: &[u8], name: &[u8], period: u32) -> Result<Vec<u8>, Memory>
     ensures { IfOk result (λ text. text.items ≡ check_text (codes "rejected" ∷ word.now ∷ name.now ∷ decimal period ∷ [])) }
 {
@@ -102,7 +98,6 @@ pub fn rejected(
 }
 
 /// The text that tells the first operation that does not fit.
-#[tactic(auto, unfolding(crate::specs::Texts::Frame::framed_text))]
 pub fn overflowed(alloc: Global, row: CheckRow, past: Past) -> Result<Vec<u8>, Memory>
     ensures { IfOk result (λ text. text.items ≡ check_text (past_line row past)) }
 {

@@ -8,4 +8,7 @@ loop-number-preserved c =
     let supply = c.as_slice-supply-items.result.now in
     let within : c.loop-number.number < length supply = omega arith in
     let more = one-more (node_record c.args.scheme.now.nodes) c.args.text.now.bytes supply c.loop-number.number c.supply-item.result within c.supply-item.is in
-    c.in_ok-push_node.ensures ∙ rw c.loop-number.invariant (rw c.as_slice-supply-items.ensures at more)
+    record {
+      closed = c.in_ok-push_node.ensures.closed;
+      text = c.in_ok-push_node.ensures.text ∙ rw c.loop-number.invariant.text (rw c.as_slice-supply-items.ensures at more);
+    }
