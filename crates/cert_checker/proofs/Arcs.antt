@@ -1,27 +1,24 @@
 -- The staged arcs, as they are made by period and by flow; and what is known of them.
-use Rattle.std.specs.Prelude.{◌≡◌, ◌≢◌, ℕ, ◌+◌, ◌-◌, ◌*◌, ◌<◌, ◌≤◌, ◌==◌, ◌&&◌, Bool, true, false, Option, Some, None, List, [], ◌∷◌, ◌++◌, length, map, zero, suc}
-use Rattle.std.specs.List.{All, cons_option, flat_map, filter_map, range_with_len, enumerate_from, slice_get}
+use Rattle.std.specs.Prelude.{◌≡◌, ◌≢◌, ℕ, ◌+◌, ◌-◌, ◌*◌, ◌<◌, ◌≤◌, ◌==◌, ◌&&◌, Bool, true, false, List, [], ◌∷◌, ◌++◌, length, map, zero, suc}
+use Rattle.std.specs.List.{All, cons_option, flat_map, filter_map, range_with_len, enumerate_from}
 use Rattle.std.proofs.Common.{refl, sym, ap, subst, ◌∙◌, arith, get_or, take, add-one, eq-eqb, mul-le-mul_left}
 use Rattle.np_frac.specs.Ratio.{Ratio, zero_ratio}
-use Rattle.std.proofs.lemmas.List.{map-append, get_or-map, take_all}
+use Rattle.std.proofs.lemmas.List.{length-map, map-append, get_or-map, take_all}
 use Rattle.std.proofs.lemmas.List.Elements.{filter_map-append}
 use Rattle.std.proofs.lemmas.List.FromFn.{get_or-enumerate_from, length-enumerate_from}
 use Rattle.std.proofs.lemmas.Grind.{flat_map-append}
-use Rattle.np_model.specs.declared.arc.Ends.{Ends}
 use Rattle.np_model.specs.declared.scheme.Flow.{Flow}
 use Rattle.np_model.specs.declared.scheme.FlowKind.{FlowKind}
 use Rattle.np_model.specs.declared.scheme.FlowKind.TheVariants.{Link, Hold, Drain, Feed}
 use Rattle.np_model.specs.declared.scheme.Scheme.{Scheme}
-use Rattle.np_model.specs.Stages.{Stage}
-use Rattle.np_model.specs.Schemes.{ends_in, is_hold, stage_in, stage_of, staged}
-use Rattle.np_model.specs.Valid.{JoinsNodes}
+use Rattle.np_model.specs.Scheme.Segments.{Stage}
+use Rattle.np_model.specs.Scheme.Kinds.{ends_in, is_hold, JoinsNodes}
+use Rattle.np_model.specs.Scheme.Plans.{stage_in, stage_of, staged}
 use Rattle.np_model.proofs.Staged.{staged_each}
-use Rattle.cert_checker.specs.Arcs.{stage_for, as_stage, stages_of}
-use Rattle.cert_checker.specs.Nodes.{AreNodes}
+use Rattle.cert_checker.specs.Steps.Arcs.{as_stage}
+use Rattle.np_model.specs.Network.Arcs.{AreNodes}
 use Rattle.cert_checker.specs.declared.staged.StagedArc.{StagedArc}
 use Rattle.cert_checker.proofs.First.{one_more}
-use Rattle.cert_checker.proofs.Pairs.{AreThere, stage_is, length-stages}
-use Rattle.cert_checker.proofs.Balances.{ends_are}
 
 -- ---- one more flow in a period
 
@@ -56,16 +53,13 @@ period_skips scheme period i f arcs before h e last so_far =
     let none : cons_option (stage_of scheme.periods (length scheme.nodes) period (i, f)) [] ≡ [] = rw last refl in
     so_far ∙ ap (λ (z : List Stage). before ++ z) (sym (period_more scheme.periods (length scheme.nodes) period scheme.flows i f h e ∙ rw none (append_nil (so_many scheme period i))))
 
-pub period_adds : (scheme : Scheme) (period i : ℕ) (f : Flow) (ends : Ends) (arcs : List StagedArc) (before : List Stage) → i < length scheme.flows → f ≡ get_or scheme.flows i f → (is_hold f.kind && (period == scheme.periods)) ≡ false
-    → ends ≡ ends_in (length scheme.nodes) period f.kind → stages_of scheme.flows arcs ≡ before ++ so_many scheme period i
-    → stages_of scheme.flows (arcs ++ record { flow = i; period = period; ends = ends } ∷ []) ≡ before ++ so_many scheme period (i + 1)
-period_adds scheme period i f ends arcs before h e not_last is so_far =
-    let arc : StagedArc = record { flow = i; period = period; ends = ends } in
+pub period_adds : (scheme : Scheme) (period i : ℕ) (f : Flow) (arc : StagedArc) (arcs : List StagedArc) (before : List Stage) → i < length scheme.flows → f ≡ get_or scheme.flows i f → (is_hold f.kind && (period == scheme.periods)) ≡ false
+    → as_stage arc ≡ stage_in (length scheme.nodes) period (i, f) → map as_stage arcs ≡ before ++ so_many scheme period i
+    → map as_stage (arcs ++ arc ∷ []) ≡ before ++ so_many scheme period (i + 1)
+period_adds scheme period i f arc arcs before h e not_last stage so_far =
     let some : cons_option (stage_of scheme.periods (length scheme.nodes) period (i, f)) [] ≡ stage_in (length scheme.nodes) period (i, f) ∷ [] = rw not_last refl in
-    let stage : as_stage scheme.flows arc ≡ stage_in (length scheme.nodes) period (i, f) =
-    stage_is scheme.flows arc f h e ∙ ap (λ (a : Ends). record { flow = i; period = period; ends = a; lower = f.lower; upper = f.upper; cost = f.cost; bands = f.bands }) is in
-    map-append (as_stage scheme.flows) arcs (arc ∷ [])
-    ∙ ap (λ (z : List Stage). z ++ as_stage scheme.flows arc ∷ []) so_far
+    map-append as_stage arcs (arc ∷ [])
+    ∙ ap (λ (z : List Stage). z ++ as_stage arc ∷ []) so_far
     ∙ ap (λ (s : Stage). (before ++ so_many scheme period i) ++ s ∷ []) stage
     ∙ append_assoc before (so_many scheme period i) (stage_in (length scheme.nodes) period (i, f) ∷ [])
     ∙ ap (λ (z : List Stage). before ++ z) (sym (period_more scheme.periods (length scheme.nodes) period scheme.flows i f h e ∙ ap (λ (z : List Stage). so_many scheme period i ++ z) some))
@@ -79,12 +73,12 @@ pub skips : (scheme : Scheme) (flows : List Flow) (period i : ℕ) (f : Flow) (l
 skips scheme flows period i f left_out arcs before same h e left out so_far =
     period_skips scheme period i f arcs before (rw (← same) h) (rw (← same) e) (sym left ∙ out) so_far
 
-pub adds : (scheme : Scheme) (flows : List Flow) (k period i : ℕ) (f : Flow) (left_out : Bool) (ends : Ends) (arcs new : List StagedArc) (before : List Stage) → flows ≡ scheme.flows → k ≡ length scheme.nodes → i < length flows → f ≡ get_or flows i f
-    → left_out ≡ (is_hold f.kind && (period == scheme.periods)) → left_out ≡ false → ends ≡ ends_in k period f.kind → stages_of scheme.flows arcs ≡ before ++ so_many scheme period i
-    → new ≡ arcs ++ record { flow = i; period = period; ends = ends } ∷ [] → stages_of scheme.flows new ≡ before ++ so_many scheme period (i + 1)
-adds scheme flows k period i f left_out ends arcs new before same nodes h e left kept is so_far pushed =
-    ap (stages_of scheme.flows) pushed
-    ∙ period_adds scheme period i f ends arcs before (rw (← same) h) (rw (← same) e) (sym left ∙ kept) (is ∙ ap (λ (n : ℕ). ends_in n period f.kind) nodes) so_far
+pub adds : (scheme : Scheme) (flows : List Flow) (k period i : ℕ) (f : Flow) (left_out : Bool) (arc : StagedArc) (arcs new : List StagedArc) (before : List Stage) → flows ≡ scheme.flows → k ≡ length scheme.nodes → i < length flows → f ≡ get_or flows i f
+    → left_out ≡ (is_hold f.kind && (period == scheme.periods)) → left_out ≡ false → as_stage arc ≡ stage_in k period (i, f) → map as_stage arcs ≡ before ++ so_many scheme period i
+    → new ≡ arcs ++ arc ∷ [] → map as_stage new ≡ before ++ so_many scheme period (i + 1)
+adds scheme flows k period i f left_out arc arcs new before same nodes h e left kept is so_far pushed =
+    ap (map as_stage) pushed
+    ∙ period_adds scheme period i f arc arcs before (rw (← same) h) (rw (← same) e) (sym left ∙ kept) (is ∙ ap (λ (n : ℕ). stage_in n period (i, f)) nodes) so_far
 
 -- ---- one more period
 
@@ -137,32 +131,19 @@ nodes_in n k periods period (Hold node gain) e low high joins kept =
 nodes_in n k periods period (Drain node) e low high joins kept = node_below (period - 1) k node n periods e (omega arith) joins
 nodes_in n k periods period (Feed node) e low high joins kept = node_below (period - 1) k node n periods e (omega arith) joins
 
-number_for : (arc : StagedArc) (o : Option Flow) → (stage_for arc o).flow ≡ arc.flow
-number_for arc None = refl
-number_for arc (Some f) = refl
-
 pub staged_joined : (scheme : Scheme) → All (λ s. AreNodes (length scheme.supply) s.ends) (staged scheme)
 staged_joined scheme =
     staged_each (λ s. AreNodes (length scheme.supply) s.ends) scheme
     (λ period number f low high below sound kept. nodes_in (length scheme.supply) (length scheme.nodes) scheme.periods period f.kind scheme.valid.one_each low high sound.joins kept)
 
-module _ (scheme : Scheme) (arcs : List StagedArc) (is : stages_of scheme.flows arcs ≡ staged scheme) where
-  -- what holds of each staged arc holds of each that the checker keeps
-  each : (P : Stage → Type 0) → All P (staged scheme) → (i : ℕ) (d : StagedArc) → i < length arcs → P (as_stage scheme.flows (get_or arcs i d))
-  each P all i d h =
-      let stage : Stage = as_stage scheme.flows (get_or arcs i d) in
-      let over : All P (stages_of scheme.flows arcs) = subst (λ (z : List Stage). All P z) (sym is) all in
-      subst P (get_or-map (as_stage scheme.flows) arcs i d stage h) (over i stage (omega (arith, length-stages scheme.flows arcs)))
-
-  pub arcs_there : AreThere scheme.flows arcs
-  arcs_there = λ i d h.
-      subst (λ (n : ℕ). n < length scheme.flows) (number_for (get_or arcs i d) (slice_get scheme.flows (get_or arcs i d).flow))
-      (each (λ s. s.flow < length scheme.flows) (staged_each (λ s. s.flow < length scheme.flows) scheme (λ period number f low high below sound kept. below)) i d h)
-
-  pub arcs_joined : All (λ arc. AreNodes (length scheme.supply) arc.ends) arcs
-  arcs_joined = λ i d h.
-      subst (λ (a : Ends). AreNodes (length scheme.supply) a) (ends_are scheme.flows (get_or arcs i d))
-      (each (λ s. AreNodes (length scheme.supply) s.ends) (staged_joined scheme) i d h)
+-- the ends of all staged arcs that the checker keeps are nodes
+pub arcs_joined : (scheme : Scheme) (arcs : List StagedArc) → map as_stage arcs ≡ staged scheme → All (λ arc. AreNodes (length scheme.supply) (as_stage arc).ends) arcs
+arcs_joined scheme arcs is =
+    all_mapped (λ s. AreNodes (length scheme.supply) s.ends) arcs (subst (λ (z : List Stage). All (λ (s : Stage). AreNodes (length scheme.supply) s.ends) z) (sym is) (staged_joined scheme))
+  where
+    all_mapped : (P : Stage → Type 0) (xs : List StagedArc) → All P (map as_stage xs) → All (λ arc. P (as_stage arc)) xs
+    all_mapped P xs all = λ i d h.
+        subst P (get_or-map as_stage xs i d (as_stage (get_or xs i d)) h) (all i (as_stage (get_or xs i d)) (omega (arith, length-map xs as_stage)))
 
 -- ---- as many zeros as there are supplies
 

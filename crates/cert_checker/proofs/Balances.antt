@@ -1,7 +1,7 @@
 -- Running balances of all nodes, as one arc after the other is added.
-use Rattle.std.specs.Prelude.{◌≡◌, ◌≢◌, ℕ, ◌+◌, ◌<◌, ◌≤◌, not, suc, Option, Some, None, Result, Ok, List, [], ◌∷◌, length}
-use Rattle.std.specs.List.{fold, slice_get, zip, enumerate_from}
-use Rattle.std.proofs.lemmas.List.{take_all}
+use Rattle.std.specs.Prelude.{◌≡◌, ◌≢◌, ℕ, ◌+◌, ◌<◌, ◌≤◌, not, suc, Result, Ok, List, [], ◌∷◌, length, map}
+use Rattle.std.specs.List.{zip, enumerate_from}
+use Rattle.std.proofs.lemmas.List.{take_all, length-map, get_or-map}
 use Rattle.std.proofs.lemmas.List.FromFn.{get_or-enumerate_from, length-enumerate_from}
 use Rattle.std.proofs.lemmas.Slice.Zip.{length-zip, get_or-zip}
 use Rattle.std.proofs.Common.{refl, sym, ◌∙◌, ap, ap₂, inl, inr, arith, get_or, set, take}
@@ -9,20 +9,19 @@ use Rattle.std.proofs.lemmas.Bool.{cases_eq}
 use Rattle.std.proofs.lemmas.Bool.Decides.{nat_tests}
 use Rattle.std.proofs.lemmas.Grind.{common_steps}
 use Rattle.np_frac.specs.Ratio.{Ratio, zero_ratio}
-use Rattle.np_frac.specs.Exact.{plus_of, minus_of, times_of}
+use Rattle.np_frac.specs.Exact.{plus_of, minus_of, times_of, ◌▷◌}
 use Rattle.np_frac.specs.declared.frac.Past.{Past}
 use Rattle.np_frac.specs.Order.{ratio_eq}
 use Rattle.np_model.specs.declared.arc.Ends.{Ends}
 use Rattle.np_model.specs.declared.arc.Ends.TheVariants.{Link}
-use Rattle.np_model.specs.declared.scheme.Flow.{Flow}
-use Rattle.np_model.specs.declared.plan.CheckRow.{CheckRow}
+use Rattle.np_model.specs.declared.rows.CheckRow.{CheckRow}
 use Rattle.cert_checker.specs.declared.answer.Clause.{Clause}
-use Rattle.np_model.specs.Stages.{Stage}
-use Rattle.cert_checker.specs.Sums.{sum_clause, arcs_balance}
-use Rattle.cert_checker.specs.Arcs.{stage_for, as_stage, stages_of}
+use Rattle.np_model.specs.Scheme.Segments.{Stage}
+use Rattle.cert_checker.specs.Steps.Parts.{sum_clause}
+use Rattle.cert_checker.specs.Steps.Arcs.{as_stage}
 use Rattle.cert_checker.specs.declared.staged.StagedArc.{StagedArc}
 use Rattle.cert_checker.proofs.Pairs.{bind_same, bind_ok, fold_more}
-use Rattle.cert_checker.specs.Walk.{◌▷◌, add_supply, balance_step, balance_of, node_clause, first_refusal, tested, refused_if, reject_node}
+use Rattle.cert_checker.specs.Walk.{add_supply, add_flow, outflow_of, with_stage_ends, node_clause, first_refusal, tested, refused_if, reject_node}
 
 abbrev pub Running : Type 0
 Running = Result Ratio Past
@@ -31,27 +30,27 @@ Running = Result Ratio Past
 pub element_is : {A : Type 0} (xs : List A) (i : ℕ) (r d : A) → i < length xs → r ≡ get_or xs i r → get_or xs i d ≡ r
 element_is xs i r d h e = grind (arith, common_steps, e)
 
-at_tail : (v from to : ℕ) (gain x y : Ratio) → v ≡ from → balance_step v (Link from to gain) x y ≡ plus_of y x
+at_tail : (v from to : ℕ) (gain x y : Ratio) → v ≡ from → add_flow v (Link from to gain) x y ≡ plus_of y x
 at_tail v from to gain x y e = grind (arith, nat_tests)
 
-at_head : (v from to : ℕ) (gain x y : Ratio) → v ≢ from → v ≡ to → balance_step v (Link from to gain) x y ≡ times_of gain x ▷ (λ gained. minus_of y gained)
+at_head : (v from to : ℕ) (gain x y : Ratio) → v ≢ from → v ≡ to → add_flow v (Link from to gain) x y ≡ times_of gain x ▷ (λ gained. minus_of y gained)
 at_head v from to gain x y d e = grind (arith, nat_tests)
 
-apart : (v from to : ℕ) (gain x y : Ratio) → v ≢ from → v ≢ to → balance_step v (Link from to gain) x y ≡ Ok y
+apart : (v from to : ℕ) (gain x y : Ratio) → v ≢ from → v ≢ to → add_flow v (Link from to gain) x y ≡ Ok y
 apart v from to gain x y d e = grind (arith, nat_tests)
 
 -- a link changes the running balances of its two ends alone
 pub link_step : (xs : List Running) (from to v : ℕ) (gain x : Ratio) (r s a b d : Running) → from < length xs → to < length xs → from ≢ to
     → r ≡ get_or xs from r → a ≡ r ▷ (λ sum. plus_of sum x)
     → s ≡ get_or (set xs from a) to s → b ≡ s ▷ (λ sum. times_of gain x ▷ λ gained. minus_of sum gained)
-    → v < length xs → get_or (set (set xs from a) to b) v d ≡ get_or xs v d ▷ balance_step v (Link from to gain) x
+    → v < length xs → get_or (set (set xs from a) to b) v d ≡ get_or xs v d ▷ add_flow v (Link from to gain) x
 link_step xs from to v gain x r s a b d at_from at_to differ r_is a_is s_is b_is below =
     elim (cases_eq v from) [
       | inl e ↦
           let elsewhere : v ≢ to = λ f. differ (sym e ∙ f) in
           let read : get_or xs v d ≡ r = rw e (element_is xs from r d at_from r_is) in
           let written : get_or (set (set xs from a) to b) v d ≡ a = grind (arith, common_steps) in
-          written ∙ a_is ∙ sym (rw read (bind_same r (balance_step v (Link from to gain) x) (λ sum. plus_of sum x) (λ y. at_tail v from to gain x y e)))
+          written ∙ a_is ∙ sym (rw read (bind_same r (add_flow v (Link from to gain) x) (λ sum. plus_of sum x) (λ y. at_tail v from to gain x y e)))
       | inr n ↦ elim (cases_eq v to) [
         | inl e ↦
             let long : to < length (set xs from a) = grind (arith, common_steps) in
@@ -59,10 +58,10 @@ link_step xs from to v gain x r s a b d at_from at_to differ r_is a_is s_is b_is
             let read : get_or xs v d ≡ s = sym before ∙ rw e (element_is (set xs from a) to s d long s_is) in
             let written : get_or (set (set xs from a) to b) v d ≡ b = grind (arith, common_steps) in
             written ∙ b_is
-            ∙ sym (rw read (bind_same s (balance_step v (Link from to gain) x) (λ sum. times_of gain x ▷ λ gained. minus_of sum gained) (λ y. at_head v from to gain x y n e)))
+            ∙ sym (rw read (bind_same s (add_flow v (Link from to gain) x) (λ sum. times_of gain x ▷ λ gained. minus_of sum gained) (λ y. at_head v from to gain x y n e)))
         | inr m ↦
             let kept : get_or (set (set xs from a) to b) v d ≡ get_or xs v d = grind (arith, common_steps) in
-            kept ∙ sym (bind_ok (get_or xs v d) (balance_step v (Link from to gain) x) (λ y. apart v from to gain x y n m))
+            kept ∙ sym (bind_ok (get_or xs v d) (add_flow v (Link from to gain) x) (λ y. apart v from to gain x y n m))
       ]
     ]
 
@@ -89,43 +88,37 @@ sums_as row clause k from (b ∷ supply) (s ∷ sums) f e h =
     rw (here, rest) refl
 
 -- the clauses of the known sums are those of the balances
-pub sums_are : (row : CheckRow) (clause : Clause) (k : ℕ) (supply : List Ratio) (sums : List Running) (pairs : List (Stage × Ratio)) → length sums ≡ length supply → ((v : ℕ) (d : Running) → v < length sums → get_or sums v d ≡ balance_of pairs v)
+pub sums_are : (row : CheckRow) (clause : Clause) (k : ℕ) (supply : List Ratio) (sums : List Running) (pairs : List (Ends × Ratio)) → length sums ≡ length supply → ((v : ℕ) (d : Running) → v < length sums → get_or sums v d ≡ outflow_of pairs v)
     → first_refusal (sum_clause row clause k) (enumerate_from 0 (zip supply sums)) ≡ first_refusal (node_clause row clause k pairs) (enumerate_from 0 supply)
-sums_are row clause k supply sums pairs e h = sums_as row clause k 0 supply sums (balance_of pairs) e (λ j d below. h j d below ∙ ap (balance_of pairs) (omega arith))
+sums_are row clause k supply sums pairs e h = sums_as row clause k 0 supply sums (outflow_of pairs) e (λ j d below. h j d below ∙ ap (outflow_of pairs) (omega arith))
 
 -- ---- over the staged arcs that the checker keeps
 
-ends_for : (arc : StagedArc) (o : Option Flow) → (stage_for arc o).ends ≡ arc.ends
-ends_for arc None = refl
-ends_for arc (Some f) = refl
+abbrev pub flows_of : List StagedArc → List Ratio → List (Ends × Ratio)
+flows_of arcs amounts = with_stage_ends (map as_stage arcs) amounts
 
-pub ends_are : (flows : List Flow) (arc : StagedArc) → (as_stage flows arc).ends ≡ arc.ends
-ends_are flows arc = ends_for arc (slice_get flows arc.flow)
-
-arcs_from : (flows : List Flow) (v : ℕ) (r : Running) (arcs : List StagedArc) (xs : List Ratio)
-    → fold (λ running (arc, x). running ▷ balance_step v arc.ends x) r (zip arcs xs) ≡ fold (λ running (s, x). running ▷ balance_step v s.ends x) r (zip (stages_of flows arcs) xs)
-arcs_from flows v r [] xs = refl
-arcs_from flows v r (arc ∷ arcs) [] = refl
-arcs_from flows v r (arc ∷ arcs) (x ∷ xs) =
-    arcs_from flows v (r ▷ balance_step v arc.ends x) arcs xs
-    ∙ ap (λ (a : Ends). fold (λ running (s, y). running ▷ balance_step v s.ends y) (r ▷ balance_step v a x) (zip (stages_of flows arcs) xs)) (sym (ends_are flows arc))
-
-pub arcs_are : (flows : List Flow) (arcs : List StagedArc) (xs : List Ratio) (v : ℕ) → arcs_balance (zip arcs xs) v ≡ balance_of (zip (stages_of flows arcs) xs) v
-arcs_are flows arcs xs v = arcs_from flows v (Ok zero_ratio) arcs xs
+length-flows : (arcs : List StagedArc) (amounts : List Ratio) → length amounts ≡ length arcs → length (flows_of arcs amounts) ≡ length arcs
+length-flows arcs amounts e = omega (arith, length-zip (map (λ (s : Stage). s.ends) (map as_stage arcs)) amounts, length-map (map as_stage arcs) (λ (s : Stage). s.ends), length-map arcs as_stage)
 
 -- the running balance of a node after one more staged arc
 pub balance_more : (arcs : List StagedArc) (amounts : List Ratio) (i : ℕ) (arc : StagedArc) (x : Ratio) (v : ℕ) (old new : Running) → length amounts ≡ length arcs → i < length arcs
-    → arc ≡ get_or arcs i arc → x ≡ get_or amounts i x → old ≡ arcs_balance (take i (zip arcs amounts)) v → new ≡ old ▷ balance_step v arc.ends x
-    → new ≡ arcs_balance (take (i + 1) (zip arcs amounts)) v
+    → arc ≡ get_or arcs i arc → x ≡ get_or amounts i x → old ≡ outflow_of (take i (flows_of arcs amounts)) v → new ≡ old ▷ add_flow v (as_stage arc).ends x
+    → new ≡ outflow_of (take (i + 1) (flows_of arcs amounts)) v
 balance_more arcs amounts i arc x v old new e h at_arc at_x before after =
-    let pair : get_or (zip arcs amounts) i (arc, x) ≡ (arc, x) =
-    get_or-zip arcs amounts i (arc, x) h (omega arith) ∙ ap₂ {A = StagedArc} {B = Ratio} {C = StagedArc × Ratio} (λ a q. (a, q)) (sym at_arc) (sym at_x) in
+    let ends = (as_stage arc).ends in
+    let stages = map as_stage arcs in
+    let many : i < length stages = omega (arith, length-map arcs as_stage) in
+    let there : get_or (map (λ (s : Stage). s.ends) stages) i ends ≡ ends =
+    get_or-map (λ (s : Stage). s.ends) stages i (as_stage arc) ends many ∙ ap (λ (s : Stage). s.ends) (get_or-map as_stage arcs i arc (as_stage arc) h ∙ ap as_stage (sym at_arc)) in
+    let pair : get_or (flows_of arcs amounts) i (ends, x) ≡ (ends, x) =
+    get_or-zip (map (λ (s : Stage). s.ends) stages) amounts i (ends, x) (omega (arith, length-map stages (λ (s : Stage). s.ends))) (omega arith)
+    ∙ ap₂ {A = Ends} {B = Ratio} {C = Ends × Ratio} (λ a q. (a, q)) there (sym at_x) in
     after
-    ∙ ap (λ (r : Running). r ▷ balance_step v arc.ends x) before
-    ∙ sym (fold_more (λ running (a, q). running ▷ balance_step v a.ends q) (Ok zero_ratio) (zip arcs amounts) i (arc, x) (omega (arith, length-zip arcs amounts)) pair)
+    ∙ ap (λ (r : Running). r ▷ add_flow v ends x) before
+    ∙ sym (fold_more (λ running (a, q). running ▷ add_flow v a q) (Ok zero_ratio) (flows_of arcs amounts) i (ends, x) (omega (arith, length-flows arcs amounts e)) pair)
 
-pub balance_end : (arcs : List StagedArc) (amounts : List Ratio) (i : ℕ) (v : ℕ) → length amounts ≡ length arcs → length arcs ≤ i → arcs_balance (take i (zip arcs amounts)) v ≡ arcs_balance (zip arcs amounts) v
-balance_end arcs amounts i v e h = ap (λ (z : List (StagedArc × Ratio)). arcs_balance z v) (take_all i (zip arcs amounts) (omega (arith, length-zip arcs amounts)))
+pub balance_end : (arcs : List StagedArc) (amounts : List Ratio) (i : ℕ) (v : ℕ) → length amounts ≡ length arcs → length arcs ≤ i → outflow_of (take i (flows_of arcs amounts)) v ≡ outflow_of (flows_of arcs amounts) v
+balance_end arcs amounts i v e h = ap (λ (z : List (Ends × Ratio)). outflow_of z v) (take_all i (flows_of arcs amounts) (omega (arith, length-flows arcs amounts e)))
 
 -- ---- the prices of the nodes, beside their supplies
 

@@ -3,9 +3,11 @@ use Rattle.std.specs.Prelude.{◌≡◌, ℕ, ◌==◌, Bool, true, false, if◌
 use Rattle.std.specs.List.{AllByRecursion, fold, zip, enumerate_from}
 use Rattle.std.proofs.Common.{refl, sym, ap, ◌∙◌}
 use Rattle.np_frac.specs.Ratio.{Ratio, zero_ratio, one_ratio, negated, ◌+ᵣ◌, ◌-ᵣ◌, ◌*ᵣ◌, total, is_below}
-use Rattle.np_frac.specs.Exact.{plus_of, minus_of, times_of}
+use Rattle.np_frac.specs.Exact.{plus_of, minus_of, times_of, ◌▷◌}
 use Rattle.np_frac.specs.declared.frac.Past.{Past}
-use Rattle.np_frac.proofs.Exactness.{plus_exact, minus_exact, times_exact}
+use Rattle.np_frac.proofs.Exactness.{found_by, plus_exact, minus_exact, times_exact}
+use Rattle.np_model.specs.declared.arc.NetArc.{NetArc}
+use Rattle.np_model.proofs.Pull.{reduced_by_ends, reduced_exactly}
 use Rattle.np_frac.proofs.RatioLaws.{one-*ᵣ, zero-*ᵣ, negated-*ᵣ, +ᵣ-zero, zero-+ᵣ, *ᵣ-zero, +ᵣ_assoc}
 use Rattle.np_frac.proofs.Sums.{sum, total_is, total_zip_map}
 use Rattle.np_model.specs.declared.arc.Ends.{Ends}
@@ -13,15 +15,12 @@ use Rattle.np_model.specs.declared.arc.Ends.TheVariants.{Link, Drain, Feed}
 use Rattle.np_model.specs.declared.arc.Upper.{Upper}
 use Rattle.np_model.specs.declared.arc.Upper.TheVariants.{Finite, Infinite}
 use Rattle.np_model.specs.declared.scheme.Band.{Band}
-use Rattle.np_model.specs.Network.{ReducedByEnds, coefficient, balance, plan_cost, at, bound_of, least_worth, reduced}
-use Rattle.np_model.specs.Stages.{Stage, Segment, end_after, segments_beyond, last_end, last_slope, lesser, amount_in, cost_at, stages_cost, stages_gap, hull}
-use Rattle.cert_checker.specs.Walk.{◌▷◌, balance_step, balance_of, band_end, end_of, price_of, add_segments, add_cost, cost_of, add_supply, add_worth, add_least, gap_of, add_ray_cost, ray_cost_of}
-use Rattle.cert_checker.specs.Nodes.{AreNodes}
-
--- what was found in two steps
-pub found_by : {A B : Type 0} (r : Result A Past) (f : A → Result B Past) (y : B) → r ▷ f ≡ Ok y → (x : A) × (r ≡ Ok x) × (f x ≡ Ok y)
-found_by (Ok x) f y e = (x, refl, e)
-found_by (Err p) f y e = absurd (cc e)
+use Rattle.np_model.specs.Network.Duality.{least_worth, reduced}
+use Rattle.np_model.specs.Network.Arcs.{coefficient, tail_of, head_of, bound_of, lesser, AreNodes}
+use Rattle.np_model.specs.Network.Flows.{outflow, balance, plan_cost, at}
+use Rattle.np_model.specs.Scheme.Segments.{Stage, Segment, end_after, segments_beyond, last_end, last_slope, amount_in, cost_at, hull}
+use Rattle.np_model.specs.Scheme.Convex.{stages_cost, stages_gap}
+use Rattle.cert_checker.specs.Walk.{add_flow, outflow_of, with_stage_ends, band_end, end_of, reduced_of, add_segments, add_cost, cost_of, add_supply, add_worth, add_least, gap_of, add_ray_cost, ray_cost_of}
 
 -- ---- balance
 
@@ -41,12 +40,12 @@ feed_exact : (b : Bool) (x r s : Ratio) → (if b then minus_of r x else Ok r) �
 feed_exact true x r s e = rw (negated-*ᵣ one_ratio x, one-*ᵣ x) (minus_exact r x s e)
 feed_exact false x r s e = rw (zero-*ᵣ x, +ᵣ-zero r) (cc e)
 
-step_exact : (v : ℕ) (ends : Ends) (x r s : Ratio) → balance_step v ends x r ≡ Ok s → s ≡ r +ᵣ coefficient ends v *ᵣ x
+step_exact : (v : ℕ) (ends : Ends) (x r s : Ratio) → add_flow v ends x r ≡ Ok s → s ≡ r +ᵣ coefficient ends v *ᵣ x
 step_exact v (Link from to gain) x r s e = link_exact (v == from) (v == to) gain x r s e
 step_exact v (Drain node) x r s e = drain_exact (v == node) x r s e
 step_exact v (Feed node) x r s e = feed_exact (v == node) x r s e
 
--- a fold of steps that may pass, whose steps are exact
+-- a fold of steps that may overflow, whose steps are exact
 module _ {A : Type 0} (step : A → Ratio → Result Ratio Past) (term : A → Ratio) (exact : (a : A) (r s : Ratio) → step a r ≡ Ok s → s ≡ r +ᵣ term a) where
   past_stays : (p : Past) (xs : List A) → fold (λ running a. running ▷ step a) (Err p) xs ≡ Err p
   past_stays p [] = refl
@@ -60,10 +59,17 @@ module _ {A : Type 0} (step : A → Ratio → Result Ratio Past) (term : A → R
         | Err p ↦ λ is rest. absurd (cc (past_stays p xs, rest))
       ] refl e
 
-pub balance_exact : (stages : List Stage) (x : List Ratio) (v : ℕ) (s : Ratio) → balance_of (zip stages x) v ≡ Ok s → s ≡ balance (map hull stages) x v
-balance_exact stages x v s e =
-    fold_exact {A = Stage × Ratio} (λ (st, q). balance_step v st.ends q) (λ (st, q). coefficient st.ends v *ᵣ q) (λ a r t h. step_exact v a.0.ends a.1 r t h) zero_ratio s (zip stages x) e
-    ∙ sym (total_zip_map (λ (a, q). coefficient a.ends v *ᵣ q) hull stages x)
+pub outflow_exact : (pairs : List (Ends × Ratio)) (v : ℕ) (s : Ratio) → outflow_of pairs v ≡ Ok s → s ≡ outflow pairs v
+outflow_exact pairs v s e =
+    fold_exact {A = Ends × Ratio} (λ (ends, q). add_flow v ends q) (λ (ends, q). coefficient ends v *ᵣ q) (λ a r t h. step_exact v a.0 a.1 r t h) zero_ratio s pairs e
+
+-- hulls have the ends of their stages
+hull_ends : (stages : List Stage) → map (λ (s : Stage). s.ends) stages ≡ map (λ (a : NetArc). a.ends) (map hull stages)
+hull_ends [] = refl
+hull_ends (s ∷ stages) = ap (λ (all : List Ends). s.ends ∷ all) (hull_ends stages)
+
+pub balance_exact : (stages : List Stage) (x : List Ratio) (v : ℕ) (s : Ratio) → outflow_of (with_stage_ends stages x) v ≡ Ok s → s ≡ balance (map hull stages) x v
+balance_exact stages x v s e = outflow_exact (with_stage_ends stages x) v s e ∙ ap (λ (all : List Ends). outflow (zip all x) v) (hull_ends stages)
 
 -- ---- ends
 
@@ -85,14 +91,8 @@ end_exact (Finite u) (b ∷ bs) last e =
 
 -- ---- reduced costs
 
-pub price_exact : ReducedByEnds → (p : List Ratio) (ends : Ends) (slope r : Ratio) → AreNodes (length p) ends → price_of p ends slope ≡ Ok r → r ≡ reduced p ends slope
-price_exact law p (Link from to gain) slope r nodes e =
-    let product = found_by (times_of gain (at p to)) (λ product. minus_of slope (at p from) ▷ λ difference. plus_of difference product) r e in
-    let difference = found_by (minus_of slope (at p from)) (λ difference. plus_of difference product.0) r product.2 in
-    rw (law.link p from to gain slope nodes.2 nodes.0 nodes.1, ← minus_exact slope (at p from) difference.0 difference.1, ← times_exact gain (at p to) product.0 product.1)
-    (plus_exact difference.0 product.0 r difference.2)
-price_exact law p (Drain v) slope r nodes e = rw (law.drain p v slope nodes) (minus_exact slope (at p v) r e)
-price_exact law p (Feed v) slope r nodes e = rw (law.feed p v slope nodes) (plus_exact slope (at p v) r e)
+pub reduced_exact : (p : List Ratio) (ends : Ends) (slope r : Ratio) → AreNodes (length p) ends → reduced_of p ends slope ≡ Ok r → r ≡ reduced p ends slope
+reduced_exact p ends slope r nodes e = reduced_exactly ends slope (at p (tail_of ends)) (at p (head_of ends)) r e ∙ sym (reduced_by_ends p ends slope nodes)
 
 -- ---- cost
 
@@ -167,30 +167,30 @@ worth_exact s r running t e = above (is_below zero_ratio r) e
 abbrev worth_at : List Ratio → Stage → Ratio
 worth_at p s = least_worth (reduced p s.ends zero_ratio) (hull s)
 
-least_step_exact : ReducedByEnds → (p : List Ratio) (s : Stage) → AreNodes (length p) s.ends → (r t : Ratio) → add_least p s r ≡ Ok t → t ≡ r +ᵣ worth_at p s
-least_step_exact law p s nodes r t e =
-    let price = found_by (price_of p s.ends zero_ratio) (λ q. add_worth s q r) t e in
-    rw (← price_exact law p s.ends zero_ratio price.0 nodes price.1) (worth_exact s price.0 r t price.2)
+least_step_exact : (p : List Ratio) (s : Stage) → AreNodes (length p) s.ends → (r t : Ratio) → add_least p s r ≡ Ok t → t ≡ r +ᵣ worth_at p s
+least_step_exact p s nodes r t e =
+    let price = found_by (reduced_of p s.ends zero_ratio) (λ q. add_worth s q r) t e in
+    rw (← reduced_exact p s.ends zero_ratio price.0 nodes price.1) (worth_exact s price.0 r t price.2)
 
 -- over staged arcs whose ends are nodes
-least_exact : ReducedByEnds → (p : List Ratio) (stages : List Stage) → AllByRecursion (λ s. AreNodes (length p) s.ends) stages → (r : Result Ratio Past) (s : Ratio) → fold (λ running st. running ▷ add_least p st) r stages ≡ Ok s
+least_exact : (p : List Ratio) (stages : List Stage) → AllByRecursion (λ s. AreNodes (length p) s.ends) stages → (r : Result Ratio Past) (s : Ratio) → fold (λ running st. running ▷ add_least p st) r stages ≡ Ok s
     → (q : Ratio) × (r ≡ Ok q) × (s ≡ q +ᵣ sum (worth_at p) stages)
-least_exact law p [] nodes r s e = (s, e, sym (+ᵣ-zero s))
-least_exact law p (st ∷ stages) nodes r s e =
-    let rest = least_exact law p stages nodes.1 (r ▷ add_least p st) s e in
+least_exact p [] nodes r s e = (s, e, sym (+ᵣ-zero s))
+least_exact p (st ∷ stages) nodes r s e =
+    let rest = least_exact p stages nodes.1 (r ▷ add_least p st) s e in
     let here = found_by r (add_least p st) rest.0 rest.1 in (
       here.0,
       here.1,
-      rest.2 ∙ ap (λ z. z +ᵣ sum (worth_at p) stages) (least_step_exact law p st nodes.0 here.0 rest.0 here.2) ∙ +ᵣ_assoc here.0 (worth_at p st) (sum (worth_at p) stages),
+      rest.2 ∙ ap (λ z. z +ᵣ sum (worth_at p) stages) (least_step_exact p st nodes.0 here.0 rest.0 here.2) ∙ +ᵣ_assoc here.0 (worth_at p st) (sum (worth_at p) stages),
     )
 
 sum_map : {A B : Type 0} (f : B → Ratio) (h : A → B) (xs : List A) → sum f (map h xs) ≡ sum (λ x. f (h x)) xs
 sum_map f h [] = refl
 sum_map f h (x ∷ xs) = ap (λ z. f (h x) +ᵣ z) (sum_map f h xs)
 
-pub gap_exact : ReducedByEnds → (supply : List Ratio) (stages : List Stage) (p : List Ratio) (s : Ratio) → AllByRecursion (λ st. AreNodes (length p) st.ends) stages → gap_of supply stages p ≡ Ok s → s ≡ stages_gap supply stages p
-gap_exact law supply stages p s nodes e =
-    let arcs = least_exact law p stages nodes (fold (λ running node. running ▷ add_supply supply node) (Ok zero_ratio) (enumerate_from 0 p)) s e in
+pub gap_exact : (supply : List Ratio) (stages : List Stage) (p : List Ratio) (s : Ratio) → AllByRecursion (λ st. AreNodes (length p) st.ends) stages → gap_of supply stages p ≡ Ok s → s ≡ stages_gap supply stages p
+gap_exact supply stages p s nodes e =
+    let arcs = least_exact p stages nodes (fold (λ running node. running ▷ add_supply supply node) (Ok zero_ratio) (enumerate_from 0 p)) s e in
     let prices : arcs.0 ≡ total (λ (v, potential). potential *ᵣ at supply v) (enumerate_from 0 p) =
     fold_exact {A = ℕ × Ratio} (add_supply supply) (λ (v, potential). potential *ᵣ at supply v) (λ a r t h. supply_step_exact supply a.0 a.1 r t h) zero_ratio arcs.0 (enumerate_from 0 p) arcs.1 in
     arcs.2

@@ -81,9 +81,9 @@ first_part a b r res h e = told a b r (subst (λ (z : Result (Unit {0}) CheckRef
     told None b (refusal.Past row past) h = absurd (cc h)
     told (Some s) b (refusal.Past row past) h = h
 
--- a part that passes has none
-pub part_passes : (a : Option CheckRefusal) (u : Unit {0}) (res : Result (Unit {0}) CheckRefusal) → UnlessMemory res (goes_on_unless a) → res ≡ Ok u → a ≡ None
-part_passes a u res h e = told a u (subst (λ (z : Result (Unit {0}) CheckRefusal). UnlessMemory z (goes_on_unless a)) e h)
+-- a part that holds has no refusal
+pub part_holds : (a : Option CheckRefusal) (u : Unit {0}) (res : Result (Unit {0}) CheckRefusal) → UnlessMemory res (goes_on_unless a) → res ≡ Ok u → a ≡ None
+part_holds a u res h e = told a u (subst (λ (z : Result (Unit {0}) CheckRefusal). UnlessMemory z (goes_on_unless a)) e h)
   where
     told : (a : Option CheckRefusal) (u : Unit {0}) → UnlessMemory (Ok u) (goes_on_unless a) → a ≡ None
     told None u h = refl

@@ -1,3 +1,4 @@
+pub mod Accepts
 pub mod Arcs
 pub mod Balances
 pub mod Exact
@@ -6,4 +7,5 @@ pub mod Made
 pub mod Pairs
 pub mod Segments
 pub mod Theorem
+pub mod Verdicts
 pub mod Whole

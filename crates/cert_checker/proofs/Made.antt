@@ -11,7 +11,9 @@ use Rattle.np_frac.specs.Amount.{is_short, is_amount}
 use Rattle.np_model.specs.declared.scheme.Flow.{Flow}
 use Rattle.np_model.specs.declared.scheme.FlowKind.{FlowKind}
 use Rattle.np_model.specs.declared.scheme.FlowKind.TheVariants.{Link, Hold, Drain, Feed}
-use Rattle.np_model.specs.Valid.{is_name, IsSound, IsScheme, periods_of}
+use Rattle.np_model.specs.Scheme.Names.{is_name}
+use Rattle.np_model.specs.Scheme.Valid.{IsSound, IsScheme}
+use Rattle.np_model.specs.Scheme.Kinds.{periods_of}
 
 pub short_amount : (r : Ratio) → is_short r ≡ true → is_amount r ≡ true
 unfolding is_amount

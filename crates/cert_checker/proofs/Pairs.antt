@@ -1,95 +1,21 @@
--- The staged arcs that the checker keeps, beside the amounts, place by place; and folds whose steps may pass.
-use Rattle.std.specs.Prelude.{◌≡◌, ℕ, ◌+◌, ◌<◌, ◌≤◌, Option, None, Result, Ok, Err, List, [], ◌∷◌, length}
+-- The staged arcs that the checker keeps, beside the amounts, place by place; and folds whose steps may overflow.
+use Rattle.std.specs.Prelude.{◌≡◌, ℕ, ◌+◌, ◌<◌, ◌≤◌, Option, None, Result, Ok, Err, List, [], ◌∷◌, length, map}
 use Rattle.std.specs.List.{All, fold, zip}
 use Rattle.std.proofs.Common.{refl, sym, ap, ap₂, subst, ◌∙◌, arith, get_or, take, drop}
 use Rattle.std.proofs.lemmas.List.{length-map, get_or-map, take_all, take-append-drop}
 use Rattle.std.proofs.lemmas.List.Sums.{fold-append}
-use Rattle.std.proofs.lemmas.Option.{slice_get_read}
 use Rattle.std.proofs.lemmas.Slice.Zip.{length-zip, get_or-zip}
 use Rattle.np_frac.specs.Ratio.{Ratio}
 use Rattle.np_frac.specs.declared.frac.Past.{Past}
-use Rattle.np_model.specs.declared.scheme.Flow.{Flow}
-use Rattle.np_model.specs.Stages.{Stage}
-use Rattle.cert_checker.specs.Walk.{◌▷◌, first_refusal, goes_on_unless}
-use Rattle.cert_checker.specs.Arcs.{stage_with, stage_for, as_stage, stages_of}
+use Rattle.np_model.specs.Scheme.Segments.{Stage}
+use Rattle.np_frac.specs.Exact.{◌▷◌}
+use Rattle.cert_checker.specs.Walk.{first_refusal, goes_on_unless}
+use Rattle.cert_checker.specs.Steps.Arcs.{as_stage}
 use Rattle.cert_checker.specs.declared.staged.StagedArc.{StagedArc}
 use Rattle.cert_checker.specs.declared.answer.CheckRefusal.{CheckRefusal}
 use Rattle.cert_checker.proofs.First.{one_more, goes_on, stops, finds_none}
 
-abbrev pub pairs_of : List Flow → List StagedArc → List Ratio → List (Stage × Ratio)
-pairs_of flows arcs amounts = zip (stages_of flows arcs) amounts
-
-pub length-stages : (flows : List Flow) (arcs : List StagedArc) → length (stages_of flows arcs) ≡ length arcs
-length-stages flows arcs = length-map arcs (as_stage flows)
-
-pub length-pairs : (flows : List Flow) (arcs : List StagedArc) (amounts : List Ratio) → length amounts ≡ length arcs → length (pairs_of flows arcs amounts) ≡ length arcs
-length-pairs flows arcs amounts e = omega (arith, length-zip (stages_of flows arcs) amounts, length-stages flows arcs)
-
--- the staged arc of a flow that is there
-pub stage_is : (flows : List Flow) (arc : StagedArc) (flow : Flow) → arc.flow < length flows → flow ≡ get_or flows arc.flow flow → as_stage flows arc ≡ stage_with arc flow
-stage_is flows arc flow h e = ap (stage_for arc) (slice_get_read flows (length flows) arc.flow flow refl h e)
-
--- ---- a place of a loop over the staged arcs
-
-abbrev pub AreThere : List Flow → List StagedArc → Type 0
-AreThere flows arcs = All (λ arc. arc.flow < length flows) arcs
-
-module _ (flows : List Flow) (arcs : List StagedArc) (i : ℕ) (arc : StagedArc) (flow : Flow) where
-  pub record Here : Type 0 where
-    pub there : AreThere flows arcs
-    pub below : i < length arcs
-    pub arc_is : arc ≡ get_or arcs i arc
-    pub flow_is : flow ≡ get_or flows arc.flow flow
-
-  pub stage_at : Here → (d : Stage) → get_or (stages_of flows arcs) i d ≡ stage_with arc flow
-  stage_at h d =
-      get_or-map (as_stage flows) arcs i arc d h.below
-      ∙ ap (as_stage flows) (sym h.arc_is)
-      ∙ stage_is flows arc flow (subst (λ (a : StagedArc). a.flow < length flows) (sym h.arc_is) (h.there i arc h.below)) h.flow_is
-
-  pub pair_at : Here → (amounts : List Ratio) (x : Ratio) → length amounts ≡ length arcs → x ≡ get_or amounts i x → get_or (pairs_of flows arcs amounts) i (stage_with arc flow, x) ≡ (stage_with arc flow, x)
-  pair_at h amounts x e at_x =
-      get_or-zip (stages_of flows arcs) amounts i (stage_with arc flow, x) (omega (arith, length-stages flows arcs)) (omega (arith, h.below))
-      ∙ ap₂ {A = Stage} {B = Ratio} {C = Stage × Ratio} (λ s q. (s, q)) (stage_at h (stage_with arc flow)) (sym at_x)
-
-  -- what holds of each staged arc holds here
-  pub stage_here : Here → (P : Stage → Type 0) → All P (stages_of flows arcs) → P (stage_with arc flow)
-  stage_here h P all =
-      subst (λ (s : Stage). P s) (stage_at h (stage_with arc flow)) (all i (stage_with arc flow) (omega (arith, h.below, length-stages flows arcs)))
-
-  pub arc_here : Here → (P : StagedArc → Type 0) → All P arcs → P arc
-  arc_here h P all = subst (λ (a : StagedArc). P a) (sym h.arc_is) (all i arc h.below)
-
-  -- a loop that tests one staged arc after the other
-  pub arcs_go_on : Here → (f : Stage → Option CheckRefusal) (res : Result (Unit {0}) CheckRefusal) (u : Unit {0}) → first_refusal f (take i (stages_of flows arcs)) ≡ None → res ≡ goes_on_unless (f (stage_with arc flow)) → res ≡ Ok u
-      → first_refusal f (take (i + 1) (stages_of flows arcs)) ≡ None
-  arcs_go_on h f res u so_far here ok =
-      goes_on f (stages_of flows arcs) i (stage_with arc flow) res u (omega (arith, h.below, length-stages flows arcs)) (stage_at h (stage_with arc flow)) so_far here ok
-
-  pub arcs_stop : Here → (f : Stage → Option CheckRefusal) (res : Result (Unit {0}) CheckRefusal) (r : CheckRefusal) → first_refusal f (take i (stages_of flows arcs)) ≡ None → res ≡ goes_on_unless (f (stage_with arc flow)) → res ≡ Err r
-      → Err r ≡ goes_on_unless (first_refusal f (stages_of flows arcs))
-  arcs_stop h f res r so_far here err =
-      stops f (stages_of flows arcs) i (stage_with arc flow) res r (omega (arith, h.below, length-stages flows arcs)) (stage_at h (stage_with arc flow)) so_far here err
-
-  -- and beside its amount
-  pub pairs_go_on : Here → (f : Stage × Ratio → Option CheckRefusal) (amounts : List Ratio) (x : Ratio) (res : Result (Unit {0}) CheckRefusal) (u : Unit {0}) → length amounts ≡ length arcs → x ≡ get_or amounts i x
-      → first_refusal f (take i (pairs_of flows arcs amounts)) ≡ None → res ≡ goes_on_unless (f (stage_with arc flow, x)) → res ≡ Ok u → first_refusal f (take (i + 1) (pairs_of flows arcs amounts)) ≡ None
-  pairs_go_on h f amounts x res u e at_x so_far here ok =
-      goes_on f (pairs_of flows arcs amounts) i (stage_with arc flow, x) res u (omega (arith, h.below, length-pairs flows arcs amounts e)) (pair_at h amounts x e at_x) so_far here ok
-
-  pub pairs_stop : Here → (f : Stage × Ratio → Option CheckRefusal) (amounts : List Ratio) (x : Ratio) (res : Result (Unit {0}) CheckRefusal) (r : CheckRefusal) → length amounts ≡ length arcs → x ≡ get_or amounts i x
-      → first_refusal f (take i (pairs_of flows arcs amounts)) ≡ None → res ≡ goes_on_unless (f (stage_with arc flow, x)) → res ≡ Err r → Err r ≡ goes_on_unless (first_refusal f (pairs_of flows arcs amounts))
-  pairs_stop h f amounts x res r e at_x so_far here err =
-      stops f (pairs_of flows arcs amounts) i (stage_with arc flow, x) res r (omega (arith, h.below, length-pairs flows arcs amounts e)) (pair_at h amounts x e at_x) so_far here err
-
-pub arcs_end : (f : Stage → Option CheckRefusal) (flows : List Flow) (arcs : List StagedArc) (i : ℕ) → length arcs ≤ i → first_refusal f (take i (stages_of flows arcs)) ≡ None → Ok tt ≡ goes_on_unless (first_refusal f (stages_of flows arcs))
-arcs_end f flows arcs i h so_far = finds_none f (stages_of flows arcs) i (omega (arith, length-stages flows arcs)) so_far
-
-pub pairs_end : (f : Stage × Ratio → Option CheckRefusal) (flows : List Flow) (arcs : List StagedArc) (amounts : List Ratio) (i : ℕ) → length amounts ≡ length arcs → length arcs ≤ i → first_refusal f (take i (pairs_of flows arcs amounts)) ≡ None
-    → Ok tt ≡ goes_on_unless (first_refusal f (pairs_of flows arcs amounts))
-pairs_end f flows arcs amounts i e h so_far = finds_none f (pairs_of flows arcs amounts) i (omega (arith, length-pairs flows arcs amounts e)) so_far
-
--- ---- steps that may pass
+-- ---- steps that may overflow
 
 pub bind_same : {A B : Type 0} (r : Result A Past) (f g : A → Result B Past) → ((y : A) → f y ≡ g y) → r ▷ f ≡ r ▷ g
 bind_same (Ok y) f g h = h y
@@ -103,7 +29,7 @@ pub bind_twice : {A B C : Type 0} (r : Result A Past) (f : A → Result B Past) 
 bind_twice (Ok y) f k = refl
 bind_twice (Err p) f k = refl
 
--- ---- a fold whose steps may pass
+-- ---- a fold whose steps may overflow
 
 pub fold_more : {A B : Type 0} (step : B → A → B) (start : B) (xs : List A) (i : ℕ) (y : A) → i < length xs → get_or xs i y ≡ y → fold step start (take (i + 1) xs) ≡ step (fold step start (take i xs)) y
 fold_more step start xs i y h e = ap (fold step start) (one_more xs i y h e) ∙ fold-append step start (take i xs) (y ∷ [])
@@ -112,9 +38,9 @@ module _ {A : Type 0} (step : A → Ratio → Result Ratio Past) (start : Result
   abbrev pub run : List A → Result Ratio Past
   run xs = fold (λ running a. running ▷ step a) start xs
 
-  past_stays : (p : Past) (xs : List A) → fold (λ running a. running ▷ step a) (Err p) xs ≡ Err p
-  past_stays p [] = refl
-  past_stays p (a ∷ xs) = past_stays p xs
+  overflow_stays : (p : Past) (xs : List A) → fold (λ running a. running ▷ step a) (Err p) xs ≡ Err p
+  overflow_stays p [] = refl
+  overflow_stays p (a ∷ xs) = overflow_stays p xs
 
   pub runs_on : (xs : List A) (i : ℕ) (y : A) (old : Ratio) (res : Result Ratio Past) → i < length xs → get_or xs i y ≡ y → Ok old ≡ run (take i xs) → res ≡ step y old → res ≡ run (take (i + 1) xs)
   runs_on xs i y old res h e so_far here =
@@ -125,7 +51,72 @@ module _ {A : Type 0} (step : A → Ratio → Result Ratio Past) (start : Result
       sym (ap run (sym (take-append-drop i xs))
       ∙ fold-append (λ running a. running ▷ step a) start (take i xs) (drop i xs)
       ∙ ap (λ (r : Result Ratio Past). fold (λ running a. running ▷ step a) r (drop i xs)) (sym e)
-      ∙ past_stays p (drop i xs))
+      ∙ overflow_stays p (drop i xs))
 
   pub run_ends : (xs : List A) (i : ℕ) (old : Ratio) → length xs ≤ i → Ok old ≡ run (take i xs) → Ok old ≡ run xs
   run_ends xs i old h so_far = so_far ∙ ap run (take_all i xs h)
+
+abbrev pub pairs_of : List StagedArc → List Ratio → List (Stage × Ratio)
+pairs_of arcs amounts = zip (map as_stage arcs) amounts
+
+pub length-stages : (arcs : List StagedArc) → length (map as_stage arcs) ≡ length arcs
+length-stages arcs = length-map arcs as_stage
+
+pub length-pairs : (arcs : List StagedArc) (amounts : List Ratio) → length amounts ≡ length arcs → length (pairs_of arcs amounts) ≡ length arcs
+length-pairs arcs amounts e = omega (arith, length-zip (map as_stage arcs) amounts, length-stages arcs)
+
+-- ---- a place of a loop over the staged arcs
+
+module _ (arcs : List StagedArc) (i : ℕ) (arc : StagedArc) (below : i < length arcs) (arc_is : arc ≡ get_or arcs i arc) where
+  pub stage_at : (d : Stage) → get_or (map as_stage arcs) i d ≡ as_stage arc
+  stage_at d = get_or-map as_stage arcs i arc d below ∙ ap as_stage (sym arc_is)
+
+  pub pair_at : (amounts : List Ratio) (x : Ratio) → length amounts ≡ length arcs → x ≡ get_or amounts i x → get_or (pairs_of arcs amounts) i (as_stage arc, x) ≡ (as_stage arc, x)
+  pair_at amounts x e at_x =
+      get_or-zip (map as_stage arcs) amounts i (as_stage arc, x) (omega (arith, length-stages arcs)) (omega arith)
+      ∙ ap₂ {A = Stage} {B = Ratio} {C = Stage × Ratio} (λ s q. (s, q)) (stage_at (as_stage arc)) (sym at_x)
+
+  -- what holds of each staged arc holds here
+  pub stage_here : (P : Stage → Type 0) → All P (map as_stage arcs) → P (as_stage arc)
+  stage_here P all = subst (λ (s : Stage). P s) (stage_at (as_stage arc)) (all i (as_stage arc) (omega (arith, length-stages arcs)))
+
+  pub arc_here : (P : StagedArc → Type 0) → All P arcs → P arc
+  arc_here P all = subst (λ (a : StagedArc). P a) (sym arc_is) (all i arc below)
+
+  -- a loop that tests one staged arc after the other
+  pub arcs_go_on : (f : Stage → Option CheckRefusal) (res : Result (Unit {0}) CheckRefusal) (u : Unit {0}) → first_refusal f (take i (map as_stage arcs)) ≡ None → res ≡ goes_on_unless (f (as_stage arc)) → res ≡ Ok u
+      → first_refusal f (take (i + 1) (map as_stage arcs)) ≡ None
+  arcs_go_on f res u so_far here ok = goes_on f (map as_stage arcs) i (as_stage arc) res u (omega (arith, length-stages arcs)) (stage_at (as_stage arc)) so_far here ok
+
+  pub arcs_stop : (f : Stage → Option CheckRefusal) (res : Result (Unit {0}) CheckRefusal) (r : CheckRefusal) → first_refusal f (take i (map as_stage arcs)) ≡ None → res ≡ goes_on_unless (f (as_stage arc)) → res ≡ Err r
+      → Err r ≡ goes_on_unless (first_refusal f (map as_stage arcs))
+  arcs_stop f res r so_far here err = stops f (map as_stage arcs) i (as_stage arc) res r (omega (arith, length-stages arcs)) (stage_at (as_stage arc)) so_far here err
+
+  -- and beside its amount
+  pub pairs_go_on : (f : Stage × Ratio → Option CheckRefusal) (amounts : List Ratio) (x : Ratio) (res : Result (Unit {0}) CheckRefusal) (u : Unit {0}) → length amounts ≡ length arcs → x ≡ get_or amounts i x
+      → first_refusal f (take i (pairs_of arcs amounts)) ≡ None → res ≡ goes_on_unless (f (as_stage arc, x)) → res ≡ Ok u → first_refusal f (take (i + 1) (pairs_of arcs amounts)) ≡ None
+  pairs_go_on f amounts x res u e at_x so_far here ok =
+      goes_on f (pairs_of arcs amounts) i (as_stage arc, x) res u (omega (arith, length-pairs arcs amounts e)) (pair_at amounts x e at_x) so_far here ok
+
+  pub pairs_stop : (f : Stage × Ratio → Option CheckRefusal) (amounts : List Ratio) (x : Ratio) (res : Result (Unit {0}) CheckRefusal) (r : CheckRefusal) → length amounts ≡ length arcs → x ≡ get_or amounts i x
+      → first_refusal f (take i (pairs_of arcs amounts)) ≡ None → res ≡ goes_on_unless (f (as_stage arc, x)) → res ≡ Err r → Err r ≡ goes_on_unless (first_refusal f (pairs_of arcs amounts))
+  pairs_stop f amounts x res r e at_x so_far here err =
+      stops f (pairs_of arcs amounts) i (as_stage arc, x) res r (omega (arith, length-pairs arcs amounts e)) (pair_at amounts x e at_x) so_far here err
+
+  -- a running sum with one more staged arc beside its amount
+  pub pair_runs : (step : Stage × Ratio → Ratio → Result Ratio Past) (start : Result Ratio Past) (amounts : List Ratio) (x old : Ratio) (res : Result Ratio Past) → length amounts ≡ length arcs → x ≡ get_or amounts i x
+      → Ok old ≡ run step start (take i (pairs_of arcs amounts)) → res ≡ step (as_stage arc, x) old → res ≡ run step start (take (i + 1) (pairs_of arcs amounts))
+  pair_runs step start amounts x old res e at_x so_far here =
+      runs_on step start (pairs_of arcs amounts) i (as_stage arc, x) old res (omega (arith, length-pairs arcs amounts e)) (pair_at amounts x e at_x) so_far here
+
+  -- and alone
+  pub arc_runs : (step : Stage → Ratio → Result Ratio Past) (start : Result Ratio Past) (old : Ratio) (res : Result Ratio Past) → Ok old ≡ run step start (take i (map as_stage arcs)) → res ≡ step (as_stage arc) old
+      → res ≡ run step start (take (i + 1) (map as_stage arcs))
+  arc_runs step start old res so_far here = runs_on step start (map as_stage arcs) i (as_stage arc) old res (omega (arith, length-stages arcs)) (stage_at (as_stage arc)) so_far here
+
+pub arcs_end : (f : Stage → Option CheckRefusal) (arcs : List StagedArc) (i : ℕ) → length arcs ≤ i → first_refusal f (take i (map as_stage arcs)) ≡ None → Ok tt ≡ goes_on_unless (first_refusal f (map as_stage arcs))
+arcs_end f arcs i h so_far = finds_none f (map as_stage arcs) i (omega (arith, length-stages arcs)) so_far
+
+pub pairs_end : (f : Stage × Ratio → Option CheckRefusal) (arcs : List StagedArc) (amounts : List Ratio) (i : ℕ) → length amounts ≡ length arcs → length arcs ≤ i → first_refusal f (take i (pairs_of arcs amounts)) ≡ None
+    → Ok tt ≡ goes_on_unless (first_refusal f (pairs_of arcs amounts))
+pairs_end f arcs amounts i e h so_far = finds_none f (pairs_of arcs amounts) i (omega (arith, length-pairs arcs amounts e)) so_far

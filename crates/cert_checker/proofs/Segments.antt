@@ -6,14 +6,15 @@ use Rattle.std.proofs.lemmas.List.{drop_all}
 use Rattle.std.proofs.lemmas.Option.{get_or_from_slice_get}
 use Rattle.std.proofs.Math.Seq.{drop-cons}
 use Rattle.np_frac.specs.Ratio.{Ratio, is_below}
-use Rattle.np_frac.specs.Exact.{plus_of, minus_of, times_of}
+use Rattle.np_frac.specs.Exact.{plus_of, minus_of, times_of, ◌▷◌}
 use Rattle.np_frac.specs.declared.frac.Past.{Past}
 use Rattle.np_model.specs.declared.arc.Upper.{Upper}
 use Rattle.np_model.specs.declared.arc.Upper.TheVariants.{Finite, Infinite}
 use Rattle.np_model.specs.declared.scheme.Band.{Band}
-use Rattle.np_model.specs.Stages.{Segment as TheSegment, end_after, segments_beyond, last_end, last_slope, lesser}
-use Rattle.cert_checker.specs.Walk.{◌▷◌, or_then, first_refusal, goes_on_unless, end_of, is_finite, add_segments}
-use Rattle.cert_checker.specs.Sums.{end_beyond, segment_beyond, add_segment}
+use Rattle.np_model.specs.Scheme.Segments.{Segment as TheSegment, end_after, segments_beyond, last_end, last_slope}
+use Rattle.np_model.specs.Network.Arcs.{lesser, is_finite}
+use Rattle.cert_checker.specs.Walk.{or_then, first_refusal, goes_on_unless, end_of, add_segments}
+use Rattle.cert_checker.specs.Steps.Parts.{end_beyond, segment_beyond, add_segment}
 use Rattle.cert_checker.specs.declared.answer.CheckRefusal.{CheckRefusal}
 use Rattle.cert_checker.proofs.Exact.{band_exact}
 use Rattle.cert_checker.proofs.Pairs.{bind_same, bind_twice}

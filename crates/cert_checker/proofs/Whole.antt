@@ -1,41 +1,37 @@
 -- The walk over a scheme and a plan that fits it, from the lists that the code reads.
-use Rattle.std.specs.Prelude.{◌≡◌, ℕ, Option, None, Result, Ok, Err, List, length}
-use Rattle.std.specs.List.{All, AllByRecursion}
+use Rattle.std.specs.Prelude.{◌≡◌, ℕ, Option, None, Result, Ok, Err, List, length, map}
+use Rattle.std.specs.List.{All}
 use Rattle.std.proofs.Common.{refl, sym, ap, subst, ◌∙◌}
-use Rattle.std.proofs.lemmas.List.Elements.{recursion_from_All}
 use Rattle.np_frac.specs.Ratio.{Ratio}
-use Rattle.np_model.specs.declared.scheme.Flow.{Flow}
 use Rattle.np_model.specs.declared.scheme.Scheme.{Scheme}
 use Rattle.np_model.specs.declared.plan.Verdict.{Verdict}
 use Rattle.np_model.specs.declared.plan.Verdict.TheVariants as verdict
 use Rattle.np_model.specs.declared.plan.Plan.{Plan}
-use Rattle.np_model.specs.Network.{ReducedByEnds}
-use Rattle.np_model.specs.Stages.{Stage}
-use Rattle.np_model.specs.Schemes.{staged, IsFeasiblePlan, PricesProve, PricesExclude, RaysProve}
-use Rattle.np_model.specs.Fits.{FitsAs, PlanFits, OptimalFits, InfeasibleFits, UnboundedFits}
+use Rattle.np_model.specs.Scheme.Segments.{Stage}
+use Rattle.np_model.specs.Scheme.Plans.{staged}
+use Rattle.np_model.specs.Scheme.Fits.{FitsAs, PlanFits}
 use Rattle.cert_checker.specs.Walk.{walk, walk_as, amount_of, or_then, feasible_refusal, shown_refusal, optimal_refusal, infeasible_refusal, falling_refusal, unbounded_refusal, accepted_unless, goes_on_unless, UnlessMemory}
-use Rattle.cert_checker.specs.Nodes.{AreNodes}
-use Rattle.cert_checker.specs.Sums.{HasEnds}
-use Rattle.cert_checker.specs.Proves.{ProvesOptimal, ProvesInfeasible, ProvesUnbounded}
-use Rattle.cert_checker.specs.Arcs.{stages_of}
+use Rattle.np_model.specs.Network.Arcs.{AreNodes}
+use Rattle.cert_checker.specs.Steps.Parts.{EndsFit}
+use Rattle.cert_checker.specs.Steps.Arcs.{as_stage}
 use Rattle.cert_checker.specs.declared.staged.StagedArc.{StagedArc}
 use Rattle.cert_checker.specs.declared.answer.CheckRefusal.{CheckRefusal}
 use Rattle.cert_checker.specs.declared.answer.Checked.{Checked}
 use Rattle.cert_checker.specs.declared.answer.Checked.TheVariants as checked
 use Rattle.cert_checker.proofs.First.{first_part, next_part, whole_refused}
-use Rattle.cert_checker.proofs.Pairs.{AreThere}
-use Rattle.cert_checker.proofs.Arcs.{arcs_there, arcs_joined, staged_joined}
-use Rattle.cert_checker.proofs.Theorem.{feasible_by_walk, ends_by_walk, shown_by_walk, cost_by_walk, forbidden_by_walk, falls_by_walk}
+use Rattle.cert_checker.proofs.Arcs.{arcs_joined}
+use Rattle.std.proofs.lemmas.List.{length-map}
+use Rattle.cert_checker.proofs.Theorem.{ends_by_walk}
 
 -- ---- what fits
 
-pub optimal_fits : (scheme : Scheme) (plan : Plan) → plan.verdict ≡ verdict.Optimal → PlanFits scheme plan → OptimalFits scheme plan
+pub optimal_fits : (scheme : Scheme) (plan : Plan) → plan.verdict ≡ verdict.Optimal → PlanFits scheme plan → FitsAs verdict.Optimal scheme plan
 optimal_fits scheme plan e fits = subst (λ (v : Verdict). FitsAs v scheme plan) e fits
 
-pub infeasible_fits : (scheme : Scheme) (plan : Plan) → plan.verdict ≡ verdict.Infeasible → PlanFits scheme plan → InfeasibleFits scheme plan
+pub infeasible_fits : (scheme : Scheme) (plan : Plan) → plan.verdict ≡ verdict.Infeasible → PlanFits scheme plan → FitsAs verdict.Infeasible scheme plan
 infeasible_fits scheme plan e fits = subst (λ (v : Verdict). FitsAs v scheme plan) e fits
 
-pub unbounded_fits : (scheme : Scheme) (plan : Plan) → plan.verdict ≡ verdict.Unbounded → PlanFits scheme plan → UnboundedFits scheme plan
+pub unbounded_fits : (scheme : Scheme) (plan : Plan) → plan.verdict ≡ verdict.Unbounded → PlanFits scheme plan → FitsAs verdict.Unbounded scheme plan
 unbounded_fits scheme plan e fits = subst (λ (v : Verdict). FitsAs v scheme plan) e fits
 
 -- ---- the walk of each verdict
@@ -65,91 +61,54 @@ module _ (a b : Option CheckRefusal) (w : Result Checked CheckRefusal) (x : Chec
   first_refuses r res told e = rw is (whole_refused (or_then a b) x r (Err r) (first_part a b r res told e) refl)
 
   pub next_refuses : (r : CheckRefusal) (res : Result (Unit {0}) CheckRefusal) → a ≡ None → UnlessMemory res (goes_on_unless b) → res ≡ Err r → UnlessMemory (Err r) w
-  next_refuses r res passed told e = rw is (whole_refused (or_then a b) x r res (next_part a b res passed told) e)
+  next_refuses r res first told e = rw is (whole_refused (or_then a b) x r res (next_part a b res first told) e)
 
-  pub both_pass : a ≡ None → b ≡ None → Ok x ≡ w
-  both_pass passed last = rw (is, passed, last) refl
+  pub both_hold : a ≡ None → b ≡ None → Ok x ≡ w
+  both_hold first last = rw (is, first, last) refl
 
 -- and one of one part
 pub one_refuses : (a : Option CheckRefusal) (w : Result Checked CheckRefusal) (x : Checked) → w ≡ accepted_unless a x → (r : CheckRefusal) (res : Result (Unit {0}) CheckRefusal) → UnlessMemory res (goes_on_unless a) → res ≡ Err r → UnlessMemory (Err r) w
 one_refuses a w x is r res told e = rw is (whole_refused a x r res told e)
 
-pub one_passes : (a : Option CheckRefusal) (w : Result Checked CheckRefusal) (x : Checked) → w ≡ accepted_unless a x → a ≡ None → Ok x ≡ w
-one_passes a w x is passed = rw (is, passed) refl
+pub one_holds : (a : Option CheckRefusal) (w : Result Checked CheckRefusal) (x : Checked) → w ≡ accepted_unless a x → a ≡ None → Ok x ≡ w
+one_holds a w x is none = rw (is, none) refl
 
 -- ---- from the lists to the scheme and the plan
 
--- the lists that the code reads are the scheme's flows and its staged arcs
-pub record Reads (scheme : Scheme) (flows : List Flow) (arcs : List StagedArc) : Type 0 where
-  pub flows_are : flows ≡ scheme.flows
-  pub staged_are : stages_of scheme.flows arcs ≡ staged scheme
+module _ (scheme : Scheme) (plan : Plan) (arcs items : List StagedArc) (listed : arcs ≡ items) (made : map as_stage items ≡ staged scheme) where
+  pub stages_are : map as_stage arcs ≡ staged scheme
+  stages_are = ap (map as_stage) listed ∙ made
 
-pub reads : (scheme : Scheme) (flows : List Flow) (arcs items : List StagedArc) → flows ≡ scheme.flows → arcs ≡ items → stages_of scheme.flows items ≡ staged scheme → Reads scheme flows arcs
-reads scheme flows arcs items same e staged_are = record { flows_are = same; staged_are = ap (stages_of scheme.flows) e ∙ staged_are }
-
-module _ (scheme : Scheme) (plan : Plan) (flows : List Flow) (arcs : List StagedArc) (r : Reads scheme flows arcs) where
-  pub stages_are : stages_of flows arcs ≡ staged scheme
-  stages_are = ap (λ (fs : List Flow). stages_of fs arcs) r.flows_are ∙ r.staged_are
-
-  pub lists_there : AreThere flows arcs
-  lists_there = subst (λ (fs : List Flow). AreThere fs arcs) (sym r.flows_are) (arcs_there scheme arcs r.staged_are)
+  pub as_many : length (staged scheme) ≡ length arcs
+  as_many = ap length (sym stages_are) ∙ length-map arcs as_stage
 
   -- the ends of all staged arcs are nodes of a list that has one entry for each supply
-  pub lists_joined : (list : List Ratio) → length list ≡ length scheme.supply → All (λ arc. AreNodes (length list) arc.ends) arcs
-  lists_joined list e = subst (λ (n : ℕ). All (λ (arc : StagedArc). AreNodes n arc.ends) arcs) (sym e) (arcs_joined scheme arcs r.staged_are)
+  pub lists_joined : (list : List Ratio) → length list ≡ length scheme.supply → All (λ arc. AreNodes (length list) (as_stage arc).ends) arcs
+  lists_joined list e = subst (λ (n : ℕ). All (λ (arc : StagedArc). AreNodes n (as_stage arc).ends) arcs) (sym e) (arcs_joined scheme arcs stages_are)
 
-  pub feasible_told : (k : ℕ) (supply x : List Ratio) (res : Result (Unit {0}) CheckRefusal) → k ≡ length scheme.nodes → supply ≡ scheme.supply → x ≡ plan.flows → UnlessMemory res (goes_on_unless (feasible_refusal k supply (stages_of flows arcs) x))
+  pub feasible_told : (k : ℕ) (supply x : List Ratio) (res : Result (Unit {0}) CheckRefusal) → k ≡ length scheme.nodes → supply ≡ scheme.supply → x ≡ plan.flows → UnlessMemory res (goes_on_unless (feasible_refusal k supply (map as_stage arcs) x))
       → UnlessMemory res (goes_on_unless (feasible_refusal (length scheme.nodes) scheme.supply (staged scheme) plan.flows))
   feasible_told k supply x res a b c told =
-      let same : feasible_refusal k supply (stages_of flows arcs) x ≡ feasible_refusal (length scheme.nodes) scheme.supply (staged scheme) plan.flows =
+      let same : feasible_refusal k supply (map as_stage arcs) x ≡ feasible_refusal (length scheme.nodes) scheme.supply (staged scheme) plan.flows =
       λ i. feasible_refusal (a i) (b i) (stages_are i) (c i)
       in
       subst (λ (o : Option CheckRefusal). UnlessMemory res (goes_on_unless o)) same told
 
-  pub shown_told : (x p : List Ratio) (cost : Ratio) (res : Result (Unit {0}) CheckRefusal) → x ≡ plan.flows → p ≡ plan.prices → cost ≡ amount_of plan → res ≡ goes_on_unless (shown_refusal (stages_of flows arcs) x p cost)
+  pub shown_told : (x p : List Ratio) (cost : Ratio) (res : Result (Unit {0}) CheckRefusal) → x ≡ plan.flows → p ≡ plan.prices → cost ≡ amount_of plan → res ≡ goes_on_unless (shown_refusal (map as_stage arcs) x p cost)
       → res ≡ goes_on_unless (shown_refusal (staged scheme) plan.flows plan.prices (amount_of plan))
   shown_told x p cost res a b c told = rw (← a, ← b, ← c, ← stages_are) told
 
-  pub forbidden_told : (supply p : List Ratio) (gap : Ratio) (res : Result (Unit {0}) CheckRefusal) → supply ≡ scheme.supply → p ≡ plan.prices → gap ≡ amount_of plan → res ≡ goes_on_unless (infeasible_refusal supply (stages_of flows arcs) p gap)
+  pub forbidden_told : (supply p : List Ratio) (gap : Ratio) (res : Result (Unit {0}) CheckRefusal) → supply ≡ scheme.supply → p ≡ plan.prices → gap ≡ amount_of plan → res ≡ goes_on_unless (infeasible_refusal supply (map as_stage arcs) p gap)
       → res ≡ goes_on_unless (infeasible_refusal scheme.supply (staged scheme) plan.prices (amount_of plan))
   forbidden_told supply p gap res a b c told = rw (← a, ← b, ← c, ← stages_are) told
 
-  pub falling_told : (k : ℕ) (supply d : List Ratio) (res : Result (Unit {0}) CheckRefusal) → k ≡ length scheme.nodes → supply ≡ scheme.supply → d ≡ plan.ray → UnlessMemory res (goes_on_unless (falling_refusal k supply (stages_of flows arcs) d))
+  pub falling_told : (k : ℕ) (supply d : List Ratio) (res : Result (Unit {0}) CheckRefusal) → k ≡ length scheme.nodes → supply ≡ scheme.supply → d ≡ plan.ray → UnlessMemory res (goes_on_unless (falling_refusal k supply (map as_stage arcs) d))
       → UnlessMemory res (goes_on_unless (falling_refusal (length scheme.nodes) scheme.supply (staged scheme) plan.ray))
   falling_told k supply d res a b c told =
-      let same : falling_refusal k supply (stages_of flows arcs) d ≡ falling_refusal (length scheme.nodes) scheme.supply (staged scheme) plan.ray =
+      let same : falling_refusal k supply (map as_stage arcs) d ≡ falling_refusal (length scheme.nodes) scheme.supply (staged scheme) plan.ray =
       λ i. falling_refusal (a i) (b i) (stages_are i) (c i)
       in
       subst (λ (o : Option CheckRefusal). UnlessMemory res (goes_on_unless o)) same told
 
-  pub ends_told : length plan.flows ≡ length (staged scheme) → feasible_refusal (length scheme.nodes) scheme.supply (staged scheme) plan.flows ≡ None → All HasEnds (stages_of flows arcs)
-  ends_told long none = subst (λ (z : List Stage). All HasEnds z) (sym stages_are) (ends_by_walk (length scheme.nodes) scheme.supply (staged scheme) plan.flows long none)
-
--- ---- what an accepted plan is
-
-joined_prices : (scheme : Scheme) (p : List Ratio) → length p ≡ length scheme.supply → AllByRecursion (λ s. AreNodes (length p) s.ends) (staged scheme)
-joined_prices scheme p e =
-    subst (λ (n : ℕ). AllByRecursion (λ (s : Stage). AreNodes n s.ends) (staged scheme)) (sym e) (recursion_from_All (λ s. AreNodes (length scheme.supply) s.ends) (staged scheme) (staged_joined scheme))
-
-pub proves_optimal : ReducedByEnds → PricesProve → (scheme : Scheme) (plan : Plan) → OptimalFits scheme plan → feasible_refusal (length scheme.nodes) scheme.supply (staged scheme) plan.flows ≡ None
-    → shown_refusal (staged scheme) plan.flows plan.prices (amount_of plan) ≡ None → ProvesOptimal scheme plan (amount_of plan)
-proves_optimal law duality scheme plan fits feasible shown =
-    let is_feasible : IsFeasiblePlan scheme plan.flows = feasible_by_walk (length scheme.nodes) scheme.supply (staged scheme) plan.flows fits.flows feasible in
-    let shows = shown_by_walk law scheme.supply (staged scheme) plan.prices plan.flows (amount_of plan) fits.prices (joined_prices scheme plan.prices fits.prices) shown in
-    record {
-      least = duality scheme plan.prices plan.flows is_feasible shows;
-      cost_is = cost_by_walk law scheme.supply (staged scheme) plan.prices plan.flows (amount_of plan) shown;
-      shown = shows;
-    }
-
-pub proves_infeasible : ReducedByEnds → PricesExclude → (scheme : Scheme) (plan : Plan) → InfeasibleFits scheme plan → infeasible_refusal scheme.supply (staged scheme) plan.prices (amount_of plan) ≡ None → ProvesInfeasible scheme plan (amount_of plan)
-proves_infeasible law exclude scheme plan fits none =
-    let forbids = forbidden_by_walk law scheme.supply (staged scheme) plan.prices (amount_of plan) fits.prices (joined_prices scheme plan.prices fits.prices) none in
-    record { forbid = forbids.0; gap_is = forbids.1; none = exclude scheme plan.prices forbids.0 }
-
-pub proves_unbounded : RaysProve → (scheme : Scheme) (plan : Plan) → UnboundedFits scheme plan → feasible_refusal (length scheme.nodes) scheme.supply (staged scheme) plan.flows ≡ None
-    → falling_refusal (length scheme.nodes) scheme.supply (staged scheme) plan.ray ≡ None → ProvesUnbounded scheme plan
-proves_unbounded law scheme plan fits feasible falling =
-    let is_feasible : IsFeasiblePlan scheme plan.flows = feasible_by_walk (length scheme.nodes) scheme.supply (staged scheme) plan.flows fits.flows feasible in
-    let falls = falls_by_walk (length scheme.nodes) scheme.supply (staged scheme) plan.flows plan.ray fits.ray is_feasible falling in
-    record { falls = falls; cheaper = law scheme plan.flows plan.ray falls }
+  pub ends_told : length plan.flows ≡ length (staged scheme) → feasible_refusal (length scheme.nodes) scheme.supply (staged scheme) plan.flows ≡ None → All EndsFit (map as_stage arcs)
+  ends_told long none = subst (λ (z : List Stage). All EndsFit z) (sym stages_are) (ends_by_walk (length scheme.nodes) scheme.supply (staged scheme) plan.flows long none)

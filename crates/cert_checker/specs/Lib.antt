@@ -1,5 +1,5 @@
 pub mod Walk
-pub mod Nodes
-pub mod Sums
 pub mod Proves
-pub mod Arcs
+pub mod Laws
+pub mod Words
+pub mod Steps

@@ -3,7 +3,7 @@ use Rattle.std.specs.Prelude.{◌≡◌, List}
 use Rattle.np_frac.specs.Ratio.{Ratio}
 use Rattle.np_model.specs.declared.scheme.Scheme.{Scheme}
 use Rattle.np_model.specs.declared.plan.Plan.{Plan}
-use Rattle.np_model.specs.Schemes.{IsFeasiblePlan, HasNoLeast, IsLeastPlan, scheme_cost, PricesShow, PricesForbid, price_gap, FallsAlong}
+use Rattle.np_model.specs.Scheme.Plans.{IsFeasiblePlan, HasNoLeast, IsLeastPlan, scheme_cost, PricesShow, PricesForbid, price_gap, FallsAlong}
 use Rattle.cert_checker.specs.declared.answer.Checked.{Checked}
 use Rattle.cert_checker.specs.declared.answer.Checked.TheVariants.{Optimal, Infeasible, Unbounded}
 

@@ -1,11 +1,11 @@
 -- The walk of the checker over a plan: the clauses of each verdict by place, and the first of them that fails or whose arithmetic
--- passes.
+-- overflows.
 -- (This project's own.)
-use Rattle.std.specs.Prelude.{◌≡◌, ℕ, ◌+◌, ◌/◌, ◌%◌, ◌==◌, ◌&&◌, ◌||◌, not, Bool, true, false, if◌then◌else◌, Option, Some, None, Result, Ok, Err, unwrap_or, List, [], ◌∷◌, length, map}
+use Rattle.std.specs.Prelude.{◌≡◌, ℕ, ◌+◌, ◌/◌, ◌%◌, ◌==◌, ◌&&◌, ◌||◌, not, Bool, if◌then◌else◌, Option, Some, None, Result, Ok, Err, unwrap_or, List, [], ◌∷◌, length, map}
 use Rattle.std.specs.List.{fold, zip, enumerate_from}
 use Rattle.np_frac.specs.Ratio.{Ratio, zero_ratio, is_below}
 use Rattle.np_frac.specs.Order.{ratio_eq}
-use Rattle.np_frac.specs.Exact.{plus_of, minus_of, times_of}
+use Rattle.np_frac.specs.Exact.{plus_of, minus_of, times_of, ◌▷◌}
 use Rattle.np_frac.specs.declared.frac.Past.{Past}
 use Rattle.np_model.specs.declared.arc.Ends.{Ends}
 use Rattle.np_model.specs.declared.arc.Ends.TheVariants.{Link, Drain, Feed}
@@ -14,13 +14,14 @@ use Rattle.np_model.specs.declared.arc.Upper.TheVariants.{Finite, Infinite}
 use Rattle.np_model.specs.declared.scheme.Band.{Band}
 use Rattle.np_model.specs.declared.scheme.Scheme.{Scheme}
 use Rattle.np_model.specs.declared.plan.Plan.{Plan}
-use Rattle.np_model.specs.declared.plan.CheckRow.{CheckRow}
+use Rattle.np_model.specs.declared.rows.CheckRow.{CheckRow}
 use Rattle.np_model.specs.declared.plan.Verdict.{Verdict}
 use Rattle.np_model.specs.declared.plan.Verdict.TheVariants as verdict
-use Rattle.np_model.specs.declared.plan.CheckRow.TheVariants.{C1, C2, C3, C4, C5, C6}
-use Rattle.np_model.specs.Network.{at, bound_of}
-use Rattle.np_model.specs.Stages.{Stage, Segment, segments, segments_beyond, last_end, last_slope, lesser}
-use Rattle.np_model.specs.Schemes.{staged}
+use Rattle.np_model.specs.declared.rows.CheckRow.TheVariants.{C1, C2, C3, C4, C5, C6}
+use Rattle.np_model.specs.Network.Flows.{at}
+use Rattle.np_model.specs.Network.Arcs.{tail_of, head_of, reduced_cost_of, bound_of, lesser, is_finite, is_at_most, is_under}
+use Rattle.np_model.specs.Scheme.Segments.{Stage, Segment, segments, segments_beyond, last_end, last_slope}
+use Rattle.np_model.specs.Scheme.Plans.{staged}
 use Rattle.cert_checker.specs.declared.answer.Clause.{Clause}
 use Rattle.cert_checker.specs.declared.answer.Clause.TheVariants.{Balance, Bound, Reduced, Cost, Gap, RaySign, RayUpper, RayBalance, RayCost, Uncertified}
 use Rattle.cert_checker.specs.declared.answer.Clause.TheVariants as clauses
@@ -30,13 +31,7 @@ use Rattle.cert_checker.specs.declared.answer.CheckRefusal.{CheckRefusal}
 use Rattle.cert_checker.specs.declared.answer.CheckRefusal.TheVariants.{Reject}
 use Rattle.cert_checker.specs.declared.answer.CheckRefusal.TheVariants as refusal
 
--- go on with what was found, or stop at the first operation that passes
-infixl 10 ◌▷◌
-abbrev pub ◌▷◌ : {A B : Type 0} → Result A Past → (A → Result B Past) → Result B Past
-(Ok x) ▷ f = f x
-(Err past) ▷ f = Err past
-
--- the test of what was found, or the first operation of this row that passes
+-- the test of what was found, or the first operation of this row that overflows
 abbrev pub tested : {A : Type 0} → CheckRow → Result A Past → (A → Option CheckRefusal) → Option CheckRefusal
 tested row (Ok x) test = test x
 tested row (Err past) test = Some (refusal.Past row past)
@@ -56,28 +51,32 @@ first_refusal clause (x ∷ xs) = or_then (clause x) (first_refusal clause xs)
 
 -- ---- balance, with the operations of C1
 
--- the running balance of a node after a staged arc with this flow: an arc that does not touch the node leaves it
-abbrev pub balance_step : ℕ → Ends → Ratio → Ratio → Result Ratio Past
-balance_step v (Link from to gain) x running =
+-- the running balance of a node after an arc with these ends and this flow: one that does not touch the node leaves it
+abbrev pub add_flow : ℕ → Ends → Ratio → Ratio → Result Ratio Past
+add_flow v (Link from to gain) x running =
     if v == from then plus_of running x else (if v == to then (times_of gain x ▷ λ gained. minus_of running gained) else Ok running)
-balance_step v (Drain at) x running = if v == at then plus_of running x else Ok running
-balance_step v (Feed at) x running = if v == at then minus_of running x else Ok running
+add_flow v (Drain at) x running = if v == at then plus_of running x else Ok running
+add_flow v (Feed at) x running = if v == at then minus_of running x else Ok running
 
--- the balance of a node, over the staged arcs in order
-abbrev pub balance_of : List (Stage × Ratio) → ℕ → Result Ratio Past
-balance_of pairs v = fold (λ running (s, x). running ▷ balance_step v s.ends x) (Ok zero_ratio) pairs
+-- the outflow of a node, over the ends and amounts in order
+abbrev pub outflow_of : List (Ends × Ratio) → ℕ → Result Ratio Past
+outflow_of pairs v = fold (λ running (ends, x). running ▷ add_flow v ends x) (Ok zero_ratio) pairs
 
 -- with k nodes, the refusal at an expanded node
 abbrev pub reject_node : Clause → ℕ → ℕ → CheckRefusal
 reject_node clause k v = Reject clause (Some (v % k)) (v / k + 1)
 
 -- the balance of a node is what is wanted there
-abbrev pub node_clause : CheckRow → Clause → ℕ → List (Stage × Ratio) → ℕ × Ratio → Option CheckRefusal
+abbrev pub node_clause : CheckRow → Clause → ℕ → List (Ends × Ratio) → ℕ × Ratio → Option CheckRefusal
 node_clause row clause k pairs (v, wanted) =
-    tested row (balance_of pairs v) (λ sum. refused_if (not (ratio_eq sum wanted)) (reject_node clause k v))
+    tested row (outflow_of pairs v) (λ sum. refused_if (not (ratio_eq sum wanted)) (reject_node clause k v))
+
+-- the ends of each staged arc beside its amount
+abbrev pub with_stage_ends : List Stage → List Ratio → List (Ends × Ratio)
+with_stage_ends stages x = zip (map (λ s. s.ends) stages) x
 
 -- each node balances its supply
-abbrev pub balance_clauses : ℕ → List (Stage × Ratio) → List Ratio → Option CheckRefusal
+abbrev pub balance_clauses : ℕ → List (Ends × Ratio) → List Ratio → Option CheckRefusal
 balance_clauses k pairs supply = first_refusal (node_clause C1 Balance k pairs) (enumerate_from 0 supply)
 
 -- ---- bounds, with the operations of C2
@@ -93,40 +92,29 @@ end_of end [] = Ok end
 end_of Infinite (b ∷ bs) = Ok Infinite
 end_of (Finite end) (b ∷ bs) = band_end end b.width ▷ λ next. end_of next bs
 
-abbrev pub is_above : Ratio → Upper → Bool
-is_above x (Finite u) = is_below u x
-is_above x Infinite = false
-
-abbrev pub is_under : Ratio → Upper → Bool
-is_under x (Finite u) = is_below x u
-is_under x Infinite = true
-
 abbrev pub reject_stage : Clause → Stage → CheckRefusal
 reject_stage clause s = Reject clause (Some s.flow) s.period
 
 -- the flow is at least the lower bound and at most the last end
 abbrev pub bound_clause : Stage × Ratio → Option CheckRefusal
-bound_clause (s, x) = tested C2 (end_of s.upper s.bands) (λ end. refused_if (is_below x s.lower || is_above x end) (reject_stage Bound s))
+bound_clause (s, x) = tested C2 (end_of s.upper s.bands) (λ end. refused_if (is_below x s.lower || not (is_at_most x end)) (reject_stage Bound s))
 
 -- ---- reduced costs, with the operations of C3
 
--- the reduced cost of an arc with these ends at this slope
-abbrev pub price_of : List Ratio → Ends → Ratio → Result Ratio Past
-price_of p (Link from to gain) slope =
-    times_of gain (at p to) ▷ λ product. minus_of slope (at p from) ▷ λ difference. plus_of difference product
-price_of p (Drain v) slope = minus_of slope (at p v)
-price_of p (Feed v) slope = plus_of slope (at p v)
+-- the reduced cost at these prices of an arc with these ends and this slope
+abbrev pub reduced_of : List Ratio → Ends → Ratio → Result Ratio Past
+reduced_of p ends slope = reduced_cost_of ends slope (at p (tail_of ends)) (at p (head_of ends))
 
 -- where the flow lies in the segment above its start, the reduced cost is not above 0
 abbrev pub left_test : List Ratio → Stage → Ratio → Segment → Option CheckRefusal
 left_test p s x g =
-    if is_below g.start x && not (is_above x g.end) then tested C3 (price_of p s.ends g.slope) (λ r. refused_if (is_below zero_ratio r) (reject_stage Reduced s))
+    if is_below g.start x && is_at_most x g.end then tested C3 (reduced_of p s.ends g.slope) (λ r. refused_if (is_below zero_ratio r) (reject_stage Reduced s))
     else None
 
 -- where the flow lies in the segment below its end, the reduced cost is not below 0
 abbrev pub right_test : List Ratio → Stage → Ratio → Segment → Option CheckRefusal
 right_test p s x g =
-    if not (is_below x g.start) && is_under x g.end then tested C3 (price_of p s.ends g.slope) (λ r. refused_if (is_below r zero_ratio) (reject_stage Reduced s))
+    if not (is_below x g.start) && is_under x g.end then tested C3 (reduced_of p s.ends g.slope) (λ r. refused_if (is_below r zero_ratio) (reject_stage Reduced s))
     else None
 
 abbrev pub reduced_clause : List Ratio → Stage × Ratio → Option CheckRefusal
@@ -156,14 +144,10 @@ cost_clause pairs amount = tested C4 (cost_of pairs) (λ sum. refused_if (not (r
 
 -- ---- no plan, with the operations of C3, C2 and C5
 
-abbrev pub is_finite : Upper → Bool
-is_finite (Finite u) = true
-is_finite Infinite = false
-
 -- at costs of 0 the reduced cost is not below 0, or the last end is finite
 abbrev pub upper_clause : List Ratio → Stage → Option CheckRefusal
 upper_clause p s =
-    tested C3 (price_of p s.ends zero_ratio) (λ r. refused_if (is_below r zero_ratio && not (is_finite (last_end s.upper s.bands))) (reject_stage clauses.Upper s))
+    tested C3 (reduced_of p s.ends zero_ratio) (λ r. refused_if (is_below r zero_ratio && not (is_finite (last_end s.upper s.bands))) (reject_stage clauses.Upper s))
 
 -- the last end of a staged arc is found
 abbrev pub end_clause : Stage → Option CheckRefusal
@@ -182,7 +166,7 @@ add_worth s r running =
 
 -- the running gap with that of a staged arc
 abbrev pub add_least : List Ratio → Stage → Ratio → Result Ratio Past
-add_least p s running = price_of p s.ends zero_ratio ▷ λ r. add_worth s r running
+add_least p s running = reduced_of p s.ends zero_ratio ▷ λ r. add_worth s r running
 
 -- nodes by number, then staged arcs in order
 abbrev pub gap_of : List Ratio → List Stage → List Ratio → Result Ratio Past
@@ -203,7 +187,7 @@ ray_clause (s, d) =
     (refused_if (is_below zero_ratio d && is_finite (last_end s.upper s.bands)) (reject_stage RayUpper s))
 
 -- each node balances 0
-abbrev pub ray_balance_clauses : ℕ → List (Stage × Ratio) → List Ratio → Option CheckRefusal
+abbrev pub ray_balance_clauses : ℕ → List (Ends × Ratio) → List Ratio → Option CheckRefusal
 ray_balance_clauses k pairs supply = first_refusal (node_clause C6 RayBalance k pairs) (enumerate_from 0 (map (λ b. zero_ratio) supply))
 
 -- the running cost of the ray with that of a staged arc, at the slope of its last segment
@@ -222,8 +206,7 @@ ray_cost_clause pairs = tested C6 (ray_cost_of pairs) (λ sum. refused_if (not (
 -- balance at each node, with k nodes in a period, then bounds at each staged arc
 abbrev pub feasible_refusal : ℕ → List Ratio → List Stage → List Ratio → Option CheckRefusal
 feasible_refusal k supply stages x =
-    let pairs = zip stages x in
-    or_then (balance_clauses k pairs supply) (first_refusal bound_clause pairs)
+    or_then (balance_clauses k (with_stage_ends stages x) supply) (first_refusal bound_clause (zip stages x))
 
 -- reduced costs at each staged arc, then the cost
 abbrev pub shown_refusal : List Stage → List Ratio → List Ratio → Ratio → Option CheckRefusal
@@ -246,7 +229,7 @@ abbrev pub falling_refusal : ℕ → List Ratio → List Stage → List Ratio �
 falling_refusal k supply stages d =
     let pairs = zip stages d in
     or_then (first_refusal ray_clause pairs)
-    (or_then (ray_balance_clauses k pairs supply)
+    (or_then (ray_balance_clauses k (with_stage_ends stages d) supply)
     (ray_cost_clause pairs))
 
 abbrev pub unbounded_refusal : ℕ → List Ratio → List Stage → List Ratio → List Ratio → Option CheckRefusal

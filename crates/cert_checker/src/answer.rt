@@ -1,5 +1,7 @@
 //! What the checker answers.
 
+ghost use Rattle.std.specs.Prelude.{◌≡◌};
+
 use np_frac::{Frac, Memory, Past};
 use np_model::CheckRow;
 
@@ -30,6 +32,30 @@ pub enum Clause {
     Uncertified,
 }
 
+impl Clause {
+    ghost use Rattle.cert_checker.specs.Words.{clause_word};
+
+    /// Its word, as it is printed.
+    #[tactic(auto, unfolding(crate::specs::Words::clause_word))]
+    pub fn word(self) -> &'static [u8]
+        ensures { result.now ≡ clause_word self }
+    {
+        match self {
+            Clause::Balance => b"balance",
+            Clause::Bound => b"bound",
+            Clause::Reduced => b"reduced",
+            Clause::Cost => b"cost",
+            Clause::Upper => b"upper",
+            Clause::Gap => b"gap",
+            Clause::RaySign => b"ray-sign",
+            Clause::RayUpper => b"ray-upper",
+            Clause::RayBalance => b"ray-balance",
+            Clause::RayCost => b"ray-cost",
+            Clause::Uncertified => b"uncertified",
+        }
+    }
+}
+
 /// What a plan was shown to be.
 #[derive(Clone, Copy, Debug, PartialEq, Eq)]
 pub enum Checked {
@@ -51,7 +77,7 @@ pub enum CheckRefusal {
         name: Option<u32>,
         period: u32,
     },
-    /// The first operation of the walk that passes, whose exact result does not fit a fraction, and the row that it
+    /// The first operation of the walk that overflows, whose exact result does not fit a fraction, and the row that it
     /// stands in.
     Past {
         row: CheckRow,

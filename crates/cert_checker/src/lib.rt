@@ -7,6 +7,7 @@ mod balance;
 mod bound;
 mod cost;
 mod gap;
+pub mod laws;
 mod ray;
 mod reduced;
 mod segment;

@@ -1,19 +1,18 @@
 //! The reduced costs of the flows.
 
-ghost use Rattle.std.specs.Prelude.{◌≡◌, ◌<◌, length};
+ghost use Rattle.std.specs.Prelude.{◌≡◌, length, map};
 ghost use Rattle.std.specs.List.{All, zip};
-ghost use Rattle.np_model.specs.Stages.{segments, segments_beyond};
-ghost use Rattle.np_model.specs.declared.scheme.Flow.{Flow as TheFlow};
-ghost use Rattle.cert_checker.specs.Walk.{price_of, reduced_clause, first_refusal, goes_on_unless};
-ghost use Rattle.cert_checker.specs.Sums.{HasEnds, as_segment, is_beside as beside, has_wrong_sign as wrong_sign, side_test};
-ghost use Rattle.cert_checker.specs.Nodes.{AreNodes};
-ghost use Rattle.cert_checker.specs.Arcs.{stage_with, stages_of};
+ghost use Rattle.np_model.specs.Scheme.Segments.{segments, segments_beyond};
+ghost use Rattle.cert_checker.specs.Walk.{reduced_of, reduced_clause, first_refusal, goes_on_unless};
+ghost use Rattle.cert_checker.specs.Steps.Parts.{EndsFit, as_segment, is_beside, has_wrong_sign, side_test};
+ghost use Rattle.np_model.specs.Network.Arcs.{AreNodes};
+ghost use Rattle.cert_checker.specs.Steps.Arcs.{as_stage};
 
 use crate::answer::{CheckRefusal, Clause};
-use crate::segment::{Segment, is_above, is_under, segment_beyond};
+use crate::segment::{Segment, segment_beyond};
 use crate::staged::StagedArc;
 use np_frac::{Frac, Past};
-use np_model::{CheckRow, Ends, Flow};
+use np_model::{CheckRow, Ends};
 
 /// A side of an amount: towards less, or towards more.
 #[derive(Clone, Copy, Debug, PartialEq, Eq)]
@@ -22,37 +21,31 @@ pub enum Side {
     Right,
 }
 
-/// The reduced cost of an arc with these ends at this slope.
-pub fn price(prices: &[Frac], ends: Ends, slope: Frac) -> Result<Frac, Past>
-    requires { AreNodes (length prices.now) ends }
-    ensures { result ≡ price_of prices.now ends slope }
+/// The reduced cost at these prices of an arc with these ends and this slope.
+pub fn reduced_of(prices: &[Frac], ends: &Ends, slope: Frac) -> Result<Frac, Past>
+    requires { AreNodes (length prices.now) ends.now }
+    ensures { result ≡ reduced_of prices.now ends.now slope }
 {
-    match ends {
-        Ends::Link { from, to, gain } => {
-            let product = gain.times(prices[to as usize])?;
-            let difference = slope.minus(prices[from as usize])?;
-            difference.plus(product)
-        }
-        Ends::Drain(node) => slope.minus(prices[node as usize]),
-        Ends::Feed(node) => slope.plus(prices[node as usize]),
-    }
+    let first = prices[ends.tail() as usize];
+    let second = prices[ends.head() as usize];
+    ends.reduced_cost(slope, first, second)
 }
 
 // Whether a segment is the one on this side of the amount: on the left it begins below the amount and ends no lower, on the
 // right it begins no higher and ends above the amount.
 fn is_beside(side: Side, amount: Frac, segment: &Segment) -> bool
-    ensures { result ≡ beside side amount (as_segment segment.now) }
+    ensures { result ≡ is_beside side amount (as_segment segment.now) }
 {
     match side {
-        Side::Left => segment.start.is_below(amount) && !is_above(amount, segment.end),
-        Side::Right => !amount.is_below(segment.start) && is_under(amount, segment.end),
+        Side::Left => segment.start.is_below(amount) && segment.end.is_at_least(amount),
+        Side::Right => !amount.is_below(segment.start) && segment.end.is_above(amount),
     }
 }
 
 // Whether a reduced cost may not stand on this side: above 0 on the left, where the flow could fall, or below 0 on the right,
 // where it could rise.
 fn has_wrong_sign(side: Side, reduced: Frac) -> bool
-    ensures { result ≡ wrong_sign side reduced }
+    ensures { result ≡ has_wrong_sign side reduced }
 {
     let zero = Frac::whole(0);
     match side {
@@ -69,13 +62,13 @@ fn check_segment(
     amount: Frac,
     segment: &Segment,
 ) -> Result<(), CheckRefusal>
-    requires { AreNodes (length prices.now) arc.now.ends }
-    ensures { (flow : TheFlow) → result ≡ goes_on_unless (side_test side prices.now (stage_with arc.now flow) amount (as_segment segment.now)) }
+    requires { AreNodes (length prices.now) (as_stage arc.now).ends }
+    ensures { result ≡ goes_on_unless (side_test side prices.now (as_stage arc.now) amount (as_segment segment.now)) }
 {
     if !is_beside(side, amount, segment) {
         return Ok(());
     }
-    match price(prices, arc.ends, segment.slope) {
+    match reduced_of(prices, &arc.ends(), segment.slope) {
         Ok(reduced) => {
             if has_wrong_sign(side, reduced) {
                 return Err(arc.reject(Clause::Reduced));
@@ -94,20 +87,20 @@ fn check_side(
     side: Side,
     prices: &[Frac],
     arc: &StagedArc,
-    flow: &Flow,
     amount: Frac,
 ) -> Result<(), CheckRefusal>
-    requires joined { AreNodes (length prices.now) arc.now.ends }
-    requires ends { HasEnds (stage_with arc.now flow.now) }
-    ensures { result ≡ goes_on_unless (first_refusal (side_test side prices.now (stage_with arc.now flow.now) amount) (segments (stage_with arc.now flow.now))) }
+    requires joined { AreNodes (length prices.now) (as_stage arc.now).ends }
+    requires ends { EndsFit (as_stage arc.now) }
+    ensures { result ≡ goes_on_unless (first_refusal (side_test side prices.now (as_stage arc.now) amount) (segments (as_stage arc.now))) }
 {
+    let flow = arc.flow;
     let first = Segment {
         start: flow.lower,
         end: flow.upper,
         slope: flow.cost,
     };
     check_segment(side, prices, arc, amount, &first)?;
-    check_beyond(side, prices, arc, flow, amount)
+    check_beyond(side, prices, arc, amount)
 }
 
 // Whether they have them in the segments beyond the first.
@@ -115,15 +108,14 @@ fn check_beyond(
     side: Side,
     prices: &[Frac],
     arc: &StagedArc,
-    flow: &Flow,
     amount: Frac,
 ) -> Result<(), CheckRefusal>
-    requires joined { AreNodes (length prices.now) arc.now.ends }
-    requires ends { HasEnds (stage_with arc.now flow.now) }
-    ensures { result ≡ goes_on_unless (first_refusal (side_test side prices.now (stage_with arc.now flow.now) amount) (segments_beyond flow.now.upper flow.now.bands)) }
+    requires joined { AreNodes (length prices.now) (as_stage arc.now).ends }
+    requires ends { EndsFit (as_stage arc.now) }
+    ensures { result ≡ goes_on_unless (first_refusal (side_test side prices.now (as_stage arc.now) amount) (segments_beyond arc.now.flow.now.upper arc.now.flow.now.bands)) }
 {
-    let bands = flow.bands.as_slice();
-    let mut end = flow.upper;
+    let bands = arc.flow.bands.as_slice();
+    let mut end = arc.flow.upper;
     for i in 0..bands.len() {
         match segment_beyond(end, bands[i]) {
             Some(segment) => {
@@ -137,36 +129,28 @@ fn check_beyond(
 }
 
 // Whether the reduced costs of a flow have the signs that its amount asks for: first on its left, then on its right.
-fn check_arc(
-    prices: &[Frac],
-    arc: &StagedArc,
-    flow: &Flow,
-    amount: Frac,
-) -> Result<(), CheckRefusal>
-    requires joined { AreNodes (length prices.now) arc.now.ends }
-    requires ends { HasEnds (stage_with arc.now flow.now) }
-    ensures { result ≡ goes_on_unless (reduced_clause prices.now (stage_with arc.now flow.now, amount)) }
+fn check_arc(prices: &[Frac], arc: &StagedArc, amount: Frac) -> Result<(), CheckRefusal>
+    requires joined { AreNodes (length prices.now) (as_stage arc.now).ends }
+    requires ends { EndsFit (as_stage arc.now) }
+    ensures { result ≡ goes_on_unless (reduced_clause prices.now (as_stage arc.now, amount)) }
 {
-    check_side(Side::Left, prices, arc, flow, amount)?;
-    check_side(Side::Right, prices, arc, flow, amount)
+    check_side(Side::Left, prices, arc, amount)?;
+    check_side(Side::Right, prices, arc, amount)
 }
 
-/// Whether the prices show all amounts optimal: the first flow of which they do not, or at which an operation passes.
+/// Whether the prices show all amounts optimal: the first flow of which they do not, or at which an operation overflows.
 pub fn check_reduced(
     prices: &[Frac],
-    flows: &[Flow],
     arcs: &[StagedArc],
     amounts: &[Frac],
 ) -> Result<(), CheckRefusal>
     requires long { length amounts.now ≡ length arcs.now }
-    requires there { All (λ arc. arc.flow < length flows.now) arcs.now }
-    requires joined { All (λ arc. AreNodes (length prices.now) arc.ends) arcs.now }
-    requires ends { All HasEnds (stages_of flows.now arcs.now) }
-    ensures { result ≡ goes_on_unless (first_refusal (reduced_clause prices.now) (zip (stages_of flows.now arcs.now) amounts.now)) }
+    requires joined { All (λ arc. AreNodes (length prices.now) (as_stage arc).ends) arcs.now }
+    requires ends { All EndsFit (map as_stage arcs.now) }
+    ensures { result ≡ goes_on_unless (first_refusal (reduced_clause prices.now) (zip (map as_stage arcs.now) amounts.now)) }
 {
     for i in 0..arcs.len() {
-        let arc = &arcs[i];
-        check_arc(prices, arc, &flows[arc.flow as usize], amounts[i])?;
+        check_arc(prices, &arcs[i], amounts[i])?;
     }
     Ok(())
 }

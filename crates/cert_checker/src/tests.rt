@@ -1,5 +1,5 @@
 ghost use Rattle.std.specs.Prelude.{IfOk};
-ghost use Rattle.np_model.specs.Fits.{PlanFits};
+ghost use Rattle.np_model.specs.Scheme.Fits.{PlanFits};
 
 use crate::valid::{plan_of, scheme_of};
 use crate::{CheckRefusal, Checked, Clause, check};

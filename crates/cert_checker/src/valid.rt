@@ -5,10 +5,13 @@ ghost use Rattle.std.specs.List.{All, AllByRecursion, AllPass, IsDistinct, list_
 ghost use Rattle.std.specs.Str.{bytes_eq};
 ghost use Rattle.np_frac.specs.Ratio.{zero_ratio, ◌<ᵣ◌};
 ghost use Rattle.np_frac.specs.Amount.{is_short, is_amount as amount_of};
-ghost use Rattle.np_model.specs.Network.{IsAtMost, IsFinite};
-ghost use Rattle.np_model.specs.Stages.{IsConvexFrom, IsUnder};
-ghost use Rattle.np_model.specs.Valid.{is_graphic as graphic_of, is_name as name_of, JoinsNodes, HasGain, AreReached, is_amount_or_infinite, has_amount_gain, has_amounts, IsSound, expanded_arcs, periods_of};
-ghost use Rattle.np_model.specs.Fits.{PlanFits};
+ghost use Rattle.np_model.specs.Network.Arcs.{IsAtMost, IsFinite, IsUnder};
+ghost use Rattle.np_model.specs.Scheme.Segments.{IsConvexFrom, AreReached};
+ghost use Rattle.std.specs.Char.{is_ascii_graphic as graphic_of};
+ghost use Rattle.np_model.specs.Scheme.Names.{is_name as name_of};
+ghost use Rattle.np_model.specs.Scheme.Kinds.{JoinsNodes, HasGain, periods_of};
+ghost use Rattle.np_model.specs.Scheme.Valid.{is_amount_or_infinite, has_amount_gain, has_amounts, IsSound, expanded_arcs};
+ghost use Rattle.np_model.specs.Scheme.Fits.{PlanFits};
 
 use crate::staged::staged_arcs;
 use np_frac::{Frac, Memory};

@@ -4,12 +4,12 @@ ghost use Rattle.std.specs.Prelude.{◌≡◌, ◌<◌, ◌^◌, length, map, If
 ghost use Rattle.std.specs.List.{All};
 ghost use Rattle.np_frac.specs.Ratio.{zero_ratio};
 ghost use Rattle.np_model.specs.declared.plan.Verdict.TheVariants as verdict;
-ghost use Rattle.np_model.specs.Fits.{PlanFits};
+ghost use Rattle.np_model.specs.Scheme.Fits.{PlanFits};
 ghost use Rattle.cert_checker.specs.Walk.{walk, amount_of, feasible_refusal, shown_refusal, infeasible_refusal, falling_refusal, goes_on_unless, UnlessMemory};
 ghost use Rattle.cert_checker.specs.declared.answer.Checked.TheVariants as checked;
-ghost use Rattle.cert_checker.specs.Arcs.{stages_of};
-ghost use Rattle.cert_checker.specs.Sums.{HasEnds};
-ghost use Rattle.cert_checker.specs.Nodes.{AreNodes};
+ghost use Rattle.cert_checker.specs.Steps.Arcs.{as_stage};
+ghost use Rattle.cert_checker.specs.Steps.Parts.{EndsFit};
+ghost use Rattle.np_model.specs.Network.Arcs.{AreNodes};
 ghost use Rattle.cert_checker.specs.Proves.{Proves};
 
 use crate::answer::{CheckRefusal, Checked, Clause};
@@ -17,11 +17,12 @@ use crate::balance::{Balancing, check_balance};
 use crate::bound::check_bounds;
 use crate::cost::check_cost;
 use crate::gap::{check_ends, check_gap, check_uppers};
+use crate::laws::walk_proves;
 use crate::ray::{check_ray_cost, check_rays};
 use crate::reduced::check_reduced;
 use crate::staged::{StagedArc, staged_arcs};
 use np_frac::{Frac, Memory};
-use np_model::{CheckRow, Flow, Plan, Scheme, Verdict, laws};
+use np_model::{CheckRow, Plan, Scheme, Verdict};
 use std::alloc::Global;
 
 /// Checks a plan that fits the scheme.
@@ -29,9 +30,9 @@ use std::alloc::Global;
 /// It walks the clauses of the plan's verdict in order. Of an optimal plan these are `balance` at each node, `bound` and then
 /// `reduced` at each staged arc, and `cost`; of an infeasible one `upper` at each staged arc, and `gap`; of an unbounded one
 /// `balance` and `bound`, `ray-sign` and `ray-upper` at each staged arc, `ray-balance` at each node, and `ray-cost`. A plan
-/// whose budget ended or whose numbers passed is `uncertified`. The answer is what the plan was shown to be, or the first clause
-/// that fails, or the first operation whose exact result does not fit a fraction, whichever stands first in the walk. It takes
-/// time and memory in proportion to the nodes, the staged arcs and their bands.
+/// whose budget ended, or of which an operation overflowed, is `uncertified`. The answer is what the plan was shown to be, or the
+/// first clause that fails, or the first operation that overflows, whose exact result does not fit a fraction, whichever stands
+/// first in the walk. It takes time and memory in proportion to the nodes, the staged arcs and their bands.
 ///
 /// What it accepts holds among all lists of ratios, within 128 bits or not: no feasible plan costs less than an optimal one,
 /// there is no feasible plan, or every cost has a feasible plan that costs less.
@@ -41,6 +42,7 @@ pub fn check(alloc: Global, scheme: &Scheme, plan: &Plan) -> Result<Checked, Che
     ensures optimal { plan.now.verdict ≡ verdict.Optimal → IfOk result (λ answer. answer ≡ checked.Optimal (amount_of plan.now)) }
     ensures proves { IfOk result (Proves scheme.now plan.now) }
 {
+    walk_proves();
     match plan.verdict {
         Verdict::Optimal => check_optimal(alloc, scheme, plan),
         Verdict::Infeasible => check_infeasible(alloc, scheme, plan),
@@ -67,18 +69,14 @@ fn check_optimal(alloc: Global, scheme: &Scheme, plan: &Plan) -> Result<Checked,
     requires fits { PlanFits scheme.now plan.now }
     ensures walk { UnlessMemory result (walk scheme.now plan.now) }
     ensures optimal { IfOk result (λ answer. answer ≡ checked.Optimal (amount_of plan.now)) }
-    ensures proves { IfOk result (Proves scheme.now plan.now) }
 {
-    laws::reduced_costs();
-    laws::optimal_by_prices();
     let cost = plan.amount.unwrap_or(Frac::whole(0));
     let staged = staged_arcs(alloc, scheme)?;
     let arcs = staged.as_slice();
-    let flows = scheme.flows.as_slice();
     let amounts = plan.flows.as_slice();
     let nodes = scheme.nodes.as_slice().len();
-    check_feasible(alloc, nodes, scheme.supply.as_slice(), flows, arcs, amounts)?;
-    check_shown(plan.prices.as_slice(), flows, arcs, amounts, cost)?;
+    check_feasible(alloc, nodes, scheme.supply.as_slice(), arcs, amounts)?;
+    check_shown(plan.prices.as_slice(), arcs, amounts, cost)?;
     Ok(Checked::Optimal(cost))
 }
 
@@ -86,22 +84,12 @@ fn check_optimal(alloc: Global, scheme: &Scheme, plan: &Plan) -> Result<Checked,
 fn check_infeasible(alloc: Global, scheme: &Scheme, plan: &Plan) -> Result<Checked, CheckRefusal>
     requires is { plan.now.verdict ≡ verdict.Infeasible }
     requires fits { PlanFits scheme.now plan.now }
-    ensures walk { UnlessMemory result (walk scheme.now plan.now) }
-    ensures proves { IfOk result (Proves scheme.now plan.now) }
+    ensures { UnlessMemory result (walk scheme.now plan.now) }
 {
-    laws::reduced_costs();
-    laws::infeasible_by_prices();
     let gap = plan.amount.unwrap_or(Frac::whole(0));
     let staged = staged_arcs(alloc, scheme)?;
     let arcs = staged.as_slice();
-    let flows = scheme.flows.as_slice();
-    check_forbidden(
-        plan.prices.as_slice(),
-        scheme.supply.as_slice(),
-        flows,
-        arcs,
-        gap,
-    )?;
+    check_forbidden(plan.prices.as_slice(), scheme.supply.as_slice(), arcs, gap)?;
     Ok(Checked::Infeasible(gap))
 }
 
@@ -109,17 +97,14 @@ fn check_infeasible(alloc: Global, scheme: &Scheme, plan: &Plan) -> Result<Check
 fn check_unbounded(alloc: Global, scheme: &Scheme, plan: &Plan) -> Result<Checked, CheckRefusal>
     requires is { plan.now.verdict ≡ verdict.Unbounded }
     requires fits { PlanFits scheme.now plan.now }
-    ensures walk { UnlessMemory result (walk scheme.now plan.now) }
-    ensures proves { IfOk result (Proves scheme.now plan.now) }
+    ensures { UnlessMemory result (walk scheme.now plan.now) }
 {
-    laws::unbounded_by_ray();
     let staged = staged_arcs(alloc, scheme)?;
     let arcs = staged.as_slice();
     let supply = scheme.supply.as_slice();
-    let flows = scheme.flows.as_slice();
     let nodes = scheme.nodes.as_slice().len();
-    check_feasible(alloc, nodes, supply, flows, arcs, plan.flows.as_slice())?;
-    check_falling(alloc, nodes, supply, flows, arcs, plan.ray.as_slice())?;
+    check_feasible(alloc, nodes, supply, arcs, plan.flows.as_slice())?;
+    check_falling(alloc, nodes, supply, arcs, plan.ray.as_slice())?;
     Ok(Checked::Unbounded)
 }
 
@@ -128,16 +113,14 @@ fn check_feasible(
     alloc: Global,
     nodes: usize,
     supply: &[Frac],
-    flows: &[Flow],
     arcs: &[StagedArc],
     amounts: &[Frac],
 ) -> Result<(), CheckRefusal>
     requires long { length amounts.now ≡ length arcs.now }
-    requires there { All (λ arc. arc.flow < length flows.now) arcs.now }
-    requires joined { All (λ arc. AreNodes (length supply.now) arc.ends) arcs.now }
+    requires joined { All (λ arc. AreNodes (length supply.now) (as_stage arc).ends) arcs.now }
     requires some { 0 < length supply.now → 0 < nodes }
     requires few { length supply.now < 2 ^ 32 }
-    ensures { UnlessMemory result (goes_on_unless (feasible_refusal nodes supply.now (stages_of flows.now arcs.now) amounts.now)) }
+    ensures { UnlessMemory result (goes_on_unless (feasible_refusal nodes supply.now (map as_stage arcs.now) amounts.now)) }
 {
     let by = Balancing {
         row: CheckRow::C1,
@@ -145,43 +128,39 @@ fn check_feasible(
         nodes,
     };
     check_balance(alloc, by, supply, arcs, amounts)?;
-    check_bounds(flows, arcs, amounts)
+    check_bounds(arcs, amounts)
 }
 
 // Whether the prices show the flows optimal, and they cost this much.
 fn check_shown(
     prices: &[Frac],
-    flows: &[Flow],
     arcs: &[StagedArc],
     amounts: &[Frac],
     cost: Frac,
 ) -> Result<(), CheckRefusal>
     requires long { length amounts.now ≡ length arcs.now }
-    requires there { All (λ arc. arc.flow < length flows.now) arcs.now }
-    requires joined { All (λ arc. AreNodes (length prices.now) arc.ends) arcs.now }
-    requires ends { All HasEnds (stages_of flows.now arcs.now) }
-    ensures { result ≡ goes_on_unless (shown_refusal (stages_of flows.now arcs.now) amounts.now prices.now cost) }
+    requires joined { All (λ arc. AreNodes (length prices.now) (as_stage arc).ends) arcs.now }
+    requires ends { All EndsFit (map as_stage arcs.now) }
+    ensures { result ≡ goes_on_unless (shown_refusal (map as_stage arcs.now) amounts.now prices.now cost) }
 {
-    check_reduced(prices, flows, arcs, amounts)?;
-    check_cost(flows, arcs, amounts, cost)
+    check_reduced(prices, arcs, amounts)?;
+    check_cost(arcs, amounts, cost)
 }
 
 // Whether the prices show that there is no plan, with this gap.
 fn check_forbidden(
     prices: &[Frac],
     supply: &[Frac],
-    flows: &[Flow],
     arcs: &[StagedArc],
     gap: Frac,
 ) -> Result<(), CheckRefusal>
     requires each { length prices.now ≡ length supply.now }
-    requires there { All (λ arc. arc.flow < length flows.now) arcs.now }
-    requires joined { All (λ arc. AreNodes (length prices.now) arc.ends) arcs.now }
-    ensures { result ≡ goes_on_unless (infeasible_refusal supply.now (stages_of flows.now arcs.now) prices.now gap) }
+    requires joined { All (λ arc. AreNodes (length prices.now) (as_stage arc).ends) arcs.now }
+    ensures { result ≡ goes_on_unless (infeasible_refusal supply.now (map as_stage arcs.now) prices.now gap) }
 {
-    check_uppers(prices, flows, arcs)?;
-    check_ends(flows, arcs)?;
-    check_gap(prices, supply, flows, arcs, gap)
+    check_uppers(prices, arcs)?;
+    check_ends(arcs)?;
+    check_gap(prices, supply, arcs, gap)
 }
 
 // As many zeros as there are supplies.
@@ -200,18 +179,16 @@ fn check_falling(
     alloc: Global,
     nodes: usize,
     supply: &[Frac],
-    flows: &[Flow],
     arcs: &[StagedArc],
     ray: &[Frac],
 ) -> Result<(), CheckRefusal>
     requires long { length ray.now ≡ length arcs.now }
-    requires there { All (λ arc. arc.flow < length flows.now) arcs.now }
-    requires joined { All (λ arc. AreNodes (length supply.now) arc.ends) arcs.now }
+    requires joined { All (λ arc. AreNodes (length supply.now) (as_stage arc).ends) arcs.now }
     requires some { 0 < length supply.now → 0 < nodes }
     requires few { length supply.now < 2 ^ 32 }
-    ensures { UnlessMemory result (goes_on_unless (falling_refusal nodes supply.now (stages_of flows.now arcs.now) ray.now)) }
+    ensures { UnlessMemory result (goes_on_unless (falling_refusal nodes supply.now (map as_stage arcs.now) ray.now)) }
 {
-    check_rays(flows, arcs, ray)?;
+    check_rays(arcs, ray)?;
     let by = Balancing {
         row: CheckRow::C6,
         clause: Clause::RayBalance,
@@ -219,5 +196,5 @@ fn check_falling(
     };
     let wanted = zeros(alloc, supply)?;
     check_balance(alloc, by, &wanted, arcs, ray)?;
-    check_ray_cost(flows, arcs, ray)
+    check_ray_cost(arcs, ray)
 }

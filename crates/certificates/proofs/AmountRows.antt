@@ -5,15 +5,15 @@ use Rattle.std.specs.Str.{bytes_eq}
 use Rattle.std.proofs.Common.{refl, ap, ◌∙◌, arith}
 use Rattle.std.proofs.lemmas.List.{get_or-set_other}
 use Rattle.np_frac.specs.Ratio.{Ratio}
-use Rattle.np_frac.specs.Lowest.{Fits}
+use Rattle.np_frac.specs.Fits.{Fits}
 use Rattle.np_frac.specs.Text.{printed}
-use Rattle.net_csv.specs.Fields.{is_period}
-use Rattle.net_csv.specs.Writing.{name_at}
-use Rattle.net_csv.proofs.FieldFacts.{period-is}
-use Rattle.net_csv.proofs.WrittenNames.{place-own}
+use Rattle.np_records.specs.Rows.{is_period}
+use Rattle.np_model.specs.Scheme.Names.{name_at}
+use Rattle.np_records.proofs.NumberFacts.{period-is}
+use Rattle.certificates.proofs.NameTables.{place-own}
 use Rattle.certificates.specs.Claims.{Outline, Claims, place_with}
 use Rattle.certificates.specs.Faults.{amount_fault}
-use Rattle.certificates.specs.Reading.{with_amount, with_record}
+use Rattle.certificates.specs.Steps.Claims.{with_amount, with_record}
 use Rattle.certificates.proofs.Found.{get-slice}
 use Rattle.certificates.proofs.Rising.{Rises, filled}
 use Rattle.certificates.proofs.Runs.{IsStep, Runs}

@@ -9,28 +9,26 @@ use Rattle.std.proofs.lemmas.List.Elements.{filter_map-append, All-head, All-tai
 use Rattle.std.proofs.lemmas.List.{length-append}
 use Rattle.std.proofs.lemmas.Nat.{mul-add-lt}
 use Rattle.np_frac.specs.Ratio.{Ratio}
-use Rattle.np_frac.specs.Text.{number}
-use Rattle.np_records.specs.Names.{place_of}
+use Rattle.np_frac.specs.Text.{number, is_number}
+use Rattle.np_records.specs.Names.{place_of, place_in}
 use Rattle.np_records.specs.Records.{field_of}
-use Rattle.np_model.specs.declared.plan.Entry.{Entry}
-use Rattle.net_csv.specs.Fields.{is_number, is_period, place_in}
-use Rattle.net_csv.specs.Network.{is_kind}
-use Rattle.net_csv.proofs.Places.{place-is, place-within}
-use Rattle.net_csv.proofs.RowKinds.{kind-is}
-use Rattle.net_csv.proofs.FieldFacts.{and-left, and-right}
+use Rattle.np_model.specs.declared.log.Entry.{Entry}
+use Rattle.np_records.specs.Rows.{is_period, is_kind, whole_in}
+use Rattle.certificates.proofs.NameTables.{place-is, place-within, kind-is}
+use Rattle.np_frac.proofs.TextTests.{and-left, and-right}
 use Rattle.np_records.proofs.FaultFacts.{or-first, or-rest, unless-none}
-use Rattle.certificates.specs.declared.refused.Code.{Code}
-use Rattle.certificates.specs.declared.refused.Code.TheVariants as code
-use Rattle.np_records.specs.Faults.{unless}
-use Rattle.certificates.specs.Fields.{fraction_in, whole_in, overflow_in, entry_in, fields_fault, used_fault, period_fault, given_fault}
-use Rattle.certificates.specs.Claims.{Outline, Claims, claims_of, of_kind, found, amounts_given}
+use Rattle.certificates.specs.declared.refused.PlanCode.{PlanCode}
+use Rattle.certificates.specs.declared.refused.PlanCode.TheVariants as code
+use Rattle.np_records.specs.Faults.{unless, found}
+use Rattle.certificates.specs.Fields.{fraction_in, overflow_in, entry_in, fields_fault, used_fault, period_fault, given_fault}
+use Rattle.certificates.specs.Claims.{Outline, Claims, claims_of, of_kind, amounts_given}
 use Rattle.certificates.specs.Faults.{once_fault, name_fault, put_fault, amount_fault, pivot_fault, is_free, is_next, place_named, last_for, record_fault}
-use Rattle.certificates.specs.Reading.{IsOutline, with_amount, with_record}
+use Rattle.certificates.specs.Steps.Claims.{IsOutline, with_amount, with_record}
 use Rattle.certificates.proofs.Found.{found-same, found-new, listed-same, amounts-same, amounts-put, none-from}
 
 -- ---- what a record without a fault has
 
-last-of-three : (a b c : Option Code) → option_or a (option_or b (option_or c None)) ≡ None → c ≡ None
+last-of-three : (a b c : Option PlanCode) → option_or a (option_or b (option_or c None)) ≡ None → c ≡ None
 last-of-three a b c h = or-first c None (or-rest b (option_or c None) (or-rest a (option_or b (option_or c None)) h))
 
 once-free : {X Y : Type 0} (count : ℕ) (given : Option X) (before : Option Y) (r : List (List ℕ)) → once_fault count given before r ≡ None → before ≡ None
@@ -84,12 +82,12 @@ cons-list (Some x) = refl
 
 -- ---- the claims
 
-claims-eq : (a b : Claims) → a.cost ≡ b.cost → a.gap ≡ b.gap → a.arc ≡ b.arc → a.passed ≡ b.passed → a.flows ≡ b.flows → a.prices ≡ b.prices → a.ray ≡ b.ray
+claims-eq : (a b : Claims) → a.cost ≡ b.cost → a.gap ≡ b.gap → a.arc ≡ b.arc → a.overflow ≡ b.overflow → a.flows ≡ b.flows → a.prices ≡ b.prices → a.ray ≡ b.ray
     → a.turned ≡ b.turned → a.entries ≡ b.entries → a ≡ b
-claims-eq a b cost gap arc passed flows prices ray turned entries =
-    let same : record { cost = a.cost; gap = a.gap; arc = a.arc; passed = a.passed; flows = a.flows; prices = a.prices; ray = a.ray; turned = a.turned; entries = a.entries }
-    ≡ record { cost = b.cost; gap = b.gap; arc = b.arc; passed = b.passed; flows = b.flows; prices = b.prices; ray = b.ray; turned = b.turned; entries = b.entries } =
-    rw (cost, gap, arc, passed, flows, prices, ray, turned, entries) refl in
+claims-eq a b cost gap arc overflow flows prices ray turned entries =
+    let same : record { cost = a.cost; gap = a.gap; arc = a.arc; overflow = a.overflow; flows = a.flows; prices = a.prices; ray = a.ray; turned = a.turned; entries = a.entries }
+    ≡ record { cost = b.cost; gap = b.gap; arc = b.arc; overflow = b.overflow; flows = b.flows; prices = b.prices; ray = b.ray; turned = b.turned; entries = b.entries } =
+    rw (cost, gap, arc, overflow, flows, prices, ray, turned, entries) refl in
     same
 
 module _ (o : Outline) (rows : List (List (List ℕ))) (r : List (List ℕ)) where
@@ -141,12 +139,12 @@ module _ (o : Outline) (rows : List (List (List ℕ))) (r : List (List ℕ)) whe
       (found-same (of_kind (codes "turned") (λ r. whole_in (field_of r 1))) rows r (rw word refl))
       (listed-same (of_kind (codes "pivot") entry_in) rows r (rw word refl))
 
-  claims-passed : is_kind r (codes "past") ≡ true → (found (of_kind (codes "past") overflow_in) rows ≡ None)
-      → claims_of o (rows ++ r ∷ []) ≡ record (claims_of o rows) { passed = overflow_in r }
+  claims-overflow : is_kind r (codes "past") ≡ true → (found (of_kind (codes "past") overflow_in) rows ≡ None)
+      → claims_of o (rows ++ r ∷ []) ≡ record (claims_of o rows) { overflow = overflow_in r }
   unfolding claims_of
-  claims-passed kind h =
+  claims-overflow kind h =
       let word = kind-is r (codes "past") kind in
-      claims-eq (claims_of o (rows ++ r ∷ [])) (record (claims_of o rows) { passed = overflow_in r })
+      claims-eq (claims_of o (rows ++ r ∷ [])) (record (claims_of o rows) { overflow = overflow_in r })
       (found-same (of_kind (codes "cost") (λ r. fraction_in (field_of r 1))) rows r (rw word refl))
       (found-same (of_kind (codes "gap") (λ r. fraction_in (field_of r 1))) rows r (rw word refl))
       (found-same (of_kind (codes "arc") (λ r. whole_in (field_of r 1))) rows r (rw word refl))
@@ -253,7 +251,7 @@ claims-more o rows r out h = elim (cases_Bool (is_kind r (codes "cost"))) [
     | inr b ↦ elim (cases_Bool (is_kind r (codes "arc"))) [
       | inl t ↦ rw (a, b, t) (claims-arc o rows r t (once-free 2 (whole_in (field_of r 1)) _ r (rw (a, b, t) at h)))
       | inr c ↦ elim (cases_Bool (is_kind r (codes "past"))) [
-        | inl t ↦ rw (a, b, c, t) (claims-passed o rows r t (once-free 6 (overflow_in r) _ r (rw (a, b, c, t) at h)))
+        | inl t ↦ rw (a, b, c, t) (claims-overflow o rows r t (once-free 6 (overflow_in r) _ r (rw (a, b, c, t) at h)))
         | inr d ↦ elim (cases_Bool (is_kind r (codes "flow"))) [
           | inl t ↦ rw (a, b, c, d, t) (claims-flows o rows r t (last_for o r, last-within o.last o.periods (place_in o.flows (field_of r 1)) out.within, rw (a, b, c, d, t) at h))
           | inr e ↦ elim (cases_Bool (is_kind r (codes "price"))) [

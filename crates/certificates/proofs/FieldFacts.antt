@@ -1,75 +1,30 @@
--- The tests of fields decide what the readers of numbers say.
-use Rattle.std.specs.Prelude.{◌≡◌, ℕ, ◌^◌, ◌<◌, ◌≤◌, ◌==◌, ◌&&◌, nat_lt, true, false, Option, Some, None, List, [], ◌∷◌, length}
+-- What the readers of fractions and periods answer.
+use Rattle.std.specs.Prelude.{◌≡◌, ℕ, ◌≤◌, ◌&&◌, nat_le, Bool, true, false, Option, Some, None, List, if◌then◌else◌}
 use Rattle.std.specs.Option.{SomeIff}
-use Rattle.std.proofs.Common.{refl, inl, inr, arith}
-use Rattle.std.proofs.lemmas.Bool.{cases_Bool, eqb-true, eq-eqb}
+use Rattle.std.proofs.Common.{refl, arith}
 use Rattle.std.proofs.lemmas.Bool.Decides.{nat_tests}
-use Rattle.std.proofs.lemmas.Int.Digits.{digits_value-lt}
-use Rattle.std.proofs.Math.Nat.{pow-le-pow_right}
 use Rattle.np_frac.specs.Ratio.{Ratio}
-use Rattle.np_frac.specs.Text.{IsNumber, IsPart, IsFraction, IsFractionEnd, number, stroke, unsigned_part, before_mark, from_mark, fraction_of}
-use Rattle.net_csv.specs.Fields.{is_number}
-use Rattle.net_csv.proofs.FieldFacts.{number-is, number-reads, not-number, and-left, and-right}
-use Rattle.certificates.specs.Fields.{is_part, is_fraction_end, is_fraction, fraction_in, whole_in}
-
-part-is : (ds : List ℕ) → IsPart ds → is_part ds ≡ true
-part-is ds h =
-    let fits : nat_lt (number ds) (2 ^ 127) ≡ true = let p = h.fits in grind (arith, nat_tests) in
-    rw (number-is 39 ds h.digits, fits) refl
-
-part-reads : (ds : List ℕ) → is_part ds ≡ true → IsPart ds
-part-reads ds h =
-    let fits : nat_lt (number ds) (2 ^ 127) ≡ true = and-right (is_number 39 ds) _ h in
-    record { digits = number-reads 39 ds (and-left (is_number 39 ds) _ h); fits = grind (arith, nat_tests) }
-
-end-is : (bs : List ℕ) → IsFractionEnd bs → is_fraction_end bs ≡ true
-end-is [] h = refl
-end-is (m ∷ ds) h =
-    let mark : (m == stroke) ≡ true = eq-eqb m stroke h.0 in
-    let some : nat_lt 0 (number ds) ≡ true = let p = h.2 in grind (arith, nat_tests) in
-    rw (mark, part-is ds h.1, some) refl
-
-end-reads : (bs : List ℕ) → is_fraction_end bs ≡ true → IsFractionEnd bs
-end-reads [] h = tt
-end-reads (m ∷ ds) h =
-    let mark = and-left (m == stroke) _ (and-left ((m == stroke) && is_part ds) _ h) in
-    let some : nat_lt 0 (number ds) ≡ true = and-right ((m == stroke) && is_part ds) _ h in
-    (eqb-true m stroke mark, part-reads ds (and-right (m == stroke) _ (and-left ((m == stroke) && is_part ds) _ h)), grind (arith, nat_tests))
-
-pub fraction-is : (bs : List ℕ) → IsFraction bs → is_fraction bs ≡ true
-unfolding is_fraction
-fraction-is bs h = rw (part-is (before_mark (unsigned_part bs)) h.upper, end-is (from_mark (unsigned_part bs)) h.lower) refl
-
-fraction-reads : (bs : List ℕ) → is_fraction bs ≡ true → IsFraction bs
-unfolding is_fraction
-fraction-reads bs h =
-    let upper = and-left (is_part (before_mark (unsigned_part bs))) _ h in
-    let lower = and-right (is_part (before_mark (unsigned_part bs))) _ h in
-    record { upper = part-reads (before_mark (unsigned_part bs)) upper; lower = end-reads (from_mark (unsigned_part bs)) lower }
-
-not-fraction : (bs : List ℕ) → ¬ (IsFraction bs) → is_fraction bs ≡ false
-not-fraction bs h = elim (cases_Bool (is_fraction bs)) [
-  | inl t ↦ absurd (h (fraction-reads bs t))
-  | inr f ↦ f
-]
-
--- ---- what the readers answer
+use Rattle.np_frac.specs.Text.{IsFraction, fraction_of, is_number, number}
+use Rattle.np_frac.proofs.TextTests.{fraction-is, not-fraction, and-left, and-right}
+use Rattle.np_records.specs.Rows.{is_period}
+use Rattle.certificates.specs.Fields.{fraction_in}
 
 pub fraction-answer : (bs : List ℕ) (o : Option Ratio) → SomeIff o (IsFraction bs) (fraction_of bs) → o ≡ fraction_in bs
 fraction-answer bs None h = rw (not-fraction bs h) refl
 fraction-answer bs (Some x) h = rw (fraction-is bs h.0, h.1) refl
 
-pub whole-some : (bs : List ℕ) → IsNumber 9 bs → whole_in bs ≡ Some (number bs)
-whole-some bs h = rw (number-is 9 bs h) refl
+-- a number that a test lets through
+pub given-if : (b : Bool) (n p : ℕ) → Some p ≡ (if b then Some n else None) → (b ≡ true) × (p ≡ n)
+given-if true n p e = (refl, cc e)
+given-if false n p e = absurd (cc e)
 
-pub whole-none : (bs : List ℕ) → ¬ (IsNumber 9 bs) → whole_in bs ≡ None
-whole-none bs h = rw (not-number 9 bs h) refl
+pub none-if : (b : Bool) (n : ℕ) → None ≡ (if b then Some n else None) → b ≡ false
+none-if true n e = absurd (cc e)
+none-if false n e = refl
 
-power-more : (a b : ℕ) → a ≤ b → 10 ^ a ≤ 10 ^ b
-power-more a b h = pow-le-pow_right (omega arith) h
-
-pub number-few : (bs : List ℕ) → IsNumber 9 bs → number bs < 1000000000
-number-few bs h =
-    let small = digits_value-lt 10 bs h.numeral.1 in
-    let more = power-more (length bs) 9 h.short in
-    omega arith
+-- a period is from 1 to the last one
+pub period-bounds : (last : ℕ) (bs : List ℕ) → is_period last bs ≡ true → (1 ≤ number bs) × (number bs ≤ last)
+period-bounds last bs h =
+    let low : nat_le 1 (number bs) ≡ true = and-right (is_number 9 bs) _ (and-left (is_number 9 bs && nat_le 1 (number bs)) _ h) in
+    let high : nat_le (number bs) last ≡ true = and-right (is_number 9 bs && nat_le 1 (number bs)) _ h in
+    (grind (arith, nat_tests), grind (arith, nat_tests))

@@ -11,9 +11,10 @@ use Rattle.np_frac.specs.Ratio.{Ratio}
 use Rattle.np_frac.specs.Text.{number}
 use Rattle.np_records.specs.Names.{place_of}
 use Rattle.np_records.specs.Records.{field_of}
-use Rattle.net_csv.specs.Network.{is_kind}
+use Rattle.np_records.specs.Rows.{is_kind}
 use Rattle.certificates.specs.Fields.{fraction_in}
-use Rattle.certificates.specs.Claims.{found, place_with, amount_for, amounts_given}
+use Rattle.np_records.specs.Faults.{found}
+use Rattle.certificates.specs.Claims.{place_with, amount_for, amounts_given}
 
 or-none : {Y : Type 0} (o : Option Y) → option_or o None ≡ o
 or-none None = refl

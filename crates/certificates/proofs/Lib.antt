@@ -11,6 +11,7 @@ mod OutlineFacts
 mod PeriodAmounts
 mod PlanRead
 mod OnePlan
+mod StandsFor
 mod Runs
 mod WrittenWords
 mod WrittenSteps
@@ -21,3 +22,4 @@ mod WrittenAmounts
 mod Written
 mod WrittenTexts
 mod WrittenRecords
+mod TestScheme

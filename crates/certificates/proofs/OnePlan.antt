@@ -1,34 +1,33 @@
 -- Records stand for at most one plan.
-use Rattle.std.specs.Prelude.{◌≡◌, ℕ, Some, List}
+use Rattle.std.specs.Prelude.{◌≡◌, ℕ, Some, List, Option}
 use Rattle.std.proofs.Common.{refl, sym, ap, ◌∙◌}
 use Rattle.np_model.specs.declared.scheme.Scheme.{Scheme}
 use Rattle.np_model.specs.declared.plan.Plan.{Plan}
 use Rattle.np_model.specs.declared.plan.Verdict.{Verdict}
-use Rattle.np_model.specs.declared.plan.Overflow.{Overflow}
-use Rattle.np_model.specs.declared.plan.Entry.{Entry}
+use Rattle.np_model.specs.declared.rows.Overflow.{Overflow}
+use Rattle.np_model.specs.declared.log.Entry.{Entry}
 use Rattle.np_frac.specs.Ratio.{Ratio}
-use Rattle.std.specs.Prelude.{Option}
 use Rattle.certificates.specs.Claims.{Claims, claims_of, outline_of}
-use Rattle.certificates.specs.Grammar.{IsMadeOf, IsPlanOf, body_of, amount_of, flows_of, prices_of, ray_of, arc_of, passed_of}
+use Rattle.certificates.specs.Grammar.{IsMadeOf, IsPlanOf, body_of, claimed_amount, claimed_flows, claimed_prices, claimed_ray, claimed_arc, claimed_overflow}
 
 -- the plan of a verdict with these claims
-abbrev plan_with : Scheme → Claims → Verdict → Plan
+abbrev pub plan_with : Scheme → Claims → Verdict → Plan
 plan_with scheme t v = record {
   verdict = v;
-  amount = amount_of v t;
-  flows = flows_of v scheme t;
-  prices = prices_of v t;
-  ray = ray_of v scheme t;
-  arc = arc_of v t;
-  overflow = passed_of v t;
+  amount = claimed_amount v t;
+  flows = claimed_flows v scheme t;
+  prices = claimed_prices v t;
+  ray = claimed_ray v scheme t;
+  arc = claimed_arc v t;
+  overflow = claimed_overflow v t;
   log = record { turned = t.turned; entries = t.entries };
 }
 
 -- a plan is its parts
-plan-is : (p : Plan) (amount : Option Ratio) (flows prices ray : List Ratio) (arc : Option ℕ) (passed : Option Overflow) (turned : Option ℕ) (entries : List Entry)
-    → p.amount ≡ amount → p.flows ≡ flows → p.prices ≡ prices → p.ray ≡ ray → p.arc ≡ arc → p.overflow ≡ passed → p.log.turned ≡ turned → p.log.entries ≡ entries
-    → p ≡ record { verdict = p.verdict; amount = amount; flows = flows; prices = prices; ray = ray; arc = arc; overflow = passed; log = record { turned = turned; entries = entries } }
-plan-is p amount flows prices ray arc passed turned entries a f x r b o t e = rw (sym a, sym f, sym x, sym r, sym b, sym o, sym t, sym e) refl
+plan-is : (p : Plan) (amount : Option Ratio) (flows prices ray : List Ratio) (arc : Option ℕ) (overflow : Option Overflow) (turned : Option ℕ) (entries : List Entry)
+    → p.amount ≡ amount → p.flows ≡ flows → p.prices ≡ prices → p.ray ≡ ray → p.arc ≡ arc → p.overflow ≡ overflow → p.log.turned ≡ turned → p.log.entries ≡ entries
+    → p ≡ record { verdict = p.verdict; amount = amount; flows = flows; prices = prices; ray = ray; arc = arc; overflow = overflow; log = record { turned = turned; entries = entries } }
+plan-is p amount flows prices ray arc overflow turned entries a f x r b o t e = rw (sym a, sym f, sym x, sym r, sym b, sym o, sym t, sym e) refl
 
 made-is : (scheme : Scheme) (t : Claims) (p : Plan) → IsMadeOf scheme t p → p ≡ plan_with scheme t p.verdict
 made-is scheme t p m = plan-is p _ _ _ _ _ _ _ _ m.amount m.flows m.prices m.ray m.arc m.overflow m.turned m.entries

@@ -8,9 +8,9 @@ use Rattle.np_model.specs.declared.scheme.Flow.{Flow}
 use Rattle.np_model.specs.declared.scheme.FlowKind.{FlowKind}
 use Rattle.np_model.specs.declared.scheme.FlowKind.TheVariants.{Link, Hold, Drain, Feed}
 use Rattle.np_model.specs.declared.scheme.Scheme.{Scheme}
-use Rattle.np_model.specs.Valid.{periods_of}
+use Rattle.np_model.specs.Scheme.Kinds.{periods_of}
 use Rattle.certificates.specs.Claims.{outline_of}
-use Rattle.certificates.specs.Reading.{IsOutline}
+use Rattle.certificates.specs.Steps.Claims.{IsOutline}
 
 few-periods : (periods : ℕ) (kind : FlowKind) → periods_of periods kind ≤ periods
 few-periods periods (Link from to gain) = omega arith

@@ -7,7 +7,8 @@ use Rattle.np_model.specs.declared.plan.Verdict.{Verdict}
 use Rattle.certificates.specs.Claims.{Claims, claims_of, outline_of}
 use Rattle.certificates.specs.Faults.{is_complete}
 use Rattle.certificates.specs.Grammar.{IsMadeOf, body_of}
-use Rattle.certificates.specs.Reading.{IsWholeRead, ReadsPlan}
+use Rattle.certificates.specs.Steps.Texts.{IsWholeRead}
+use Rattle.certificates.specs.Reading.{ReadsPlan}
 use Rattle.certificates.proofs.PlanFacts.{plan-fits}
 
 pub plan-read : (skip : ℕ) (scheme : Scheme) (rows : List (List (List ℕ))) (verdict : Verdict) (t : Claims) (plan : Plan) → IsWholeRead skip (outline_of scheme) rows verdict t

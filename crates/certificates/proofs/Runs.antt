@@ -5,7 +5,8 @@ use Rattle.np_model.specs.declared.plan.Verdict.{Verdict}
 use Rattle.certificates.specs.Claims.{Outline, Claims, claims_of}
 use Rattle.certificates.specs.Faults.{record_fault, is_complete}
 use Rattle.certificates.specs.Grammar.{is_end, is_header, verdict_in}
-use Rattle.certificates.specs.Reading.{IsOutline, IsHeadRead, IsWholeRead, with_record}
+use Rattle.certificates.specs.Steps.Claims.{IsOutline, with_record}
+use Rattle.certificates.specs.Steps.Texts.{IsHeadRead, IsWholeRead}
 use Rattle.certificates.proofs.SoFar.{IsSoFar, so_far-head, so_far-more, so_far-end, whole-read}
 
 -- the record is not `end`, and has no fault where these are the claims before it

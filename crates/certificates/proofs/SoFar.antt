@@ -6,15 +6,17 @@ use Rattle.std.proofs.lemmas.Bool.{cases_eq}
 use Rattle.std.proofs.lemmas.Bool.Decides.{nat_tests}
 use Rattle.std.proofs.lemmas.List.{length_push, length-append, take_at}
 use Rattle.np_model.specs.declared.plan.Verdict.{Verdict}
-use Rattle.certificates.specs.declared.refused.Code.{Code}
-use Rattle.certificates.specs.declared.refused.Code.TheVariants as code
-use Rattle.certificates.specs.declared.refused.Refused.{Refused}
-use Rattle.certificates.specs.declared.refused.Refused.TheVariants as refused
+use Rattle.certificates.specs.declared.refused.PlanCode.{PlanCode}
+use Rattle.certificates.specs.declared.refused.PlanCode.TheVariants as code
+use Rattle.certificates.specs.declared.refused.PlanRefused.{PlanRefused}
+use Rattle.certificates.specs.declared.refused.PlanRefused.TheVariants as refused
 use Rattle.certificates.specs.Fields.{fields_fault}
 use Rattle.certificates.specs.Claims.{Outline, Claims, claims_of}
 use Rattle.certificates.specs.Faults.{record_fault, end_fault, is_complete}
-use Rattle.certificates.specs.Grammar.{is_end, is_header, verdict_in, row_at, body_before, body_fault, fault_at}
-use Rattle.certificates.specs.Reading.{IsOutline, HasPlaces, IsHeadRead, IsTextRead, IsWholeRead, TakesRow, RefusesAt, with_record}
+use Rattle.certificates.specs.Grammar.{is_end, is_header, verdict_in, body_fault, fault_at}
+use Rattle.np_records.specs.Rows.{row_at, body_before}
+use Rattle.certificates.specs.Steps.Claims.{IsOutline, HasAmountPlaces, with_record}
+use Rattle.certificates.specs.Steps.Texts.{IsHeadRead, IsTextRead, IsWholeRead, IsRowTaken, RefusesAt}
 use Rattle.certificates.proofs.Found.{amounts-length}
 use Rattle.np_records.proofs.FaultFacts.{or-first, or-rest, unless-none}
 use Rattle.certificates.proofs.ClaimsMore.{claims-more, few-more}
@@ -33,7 +35,7 @@ pub record IsSoFar (skip : ℕ) (o : Outline) (verdict : Verdict) (rows left : L
 
 -- ---- the claims have their places
 
-places-of : (o : Outline) (rows : List (List (List ℕ))) (t : Claims) → t ≡ claims_of o rows → length t.entries ≤ 1000000 → HasPlaces o t
+places-of : (o : Outline) (rows : List (List (List ℕ))) (t : Claims) → t ≡ claims_of o rows → length t.entries ≤ 1000000 → HasAmountPlaces o t
 unfolding claims_of
 places-of o rows t e few =
     record {
@@ -43,7 +45,7 @@ places-of o rows t e few =
       few = few;
     }
 
-pub so_far-places : (skip : ℕ) (o : Outline) (verdict : Verdict) (rows left : List (List (List ℕ))) (place : ℕ) (t : Claims) → IsSoFar skip o verdict rows left place t → HasPlaces o t
+pub so_far-places : (skip : ℕ) (o : Outline) (verdict : Verdict) (rows left : List (List (List ℕ))) (place : ℕ) (t : Claims) → IsSoFar skip o verdict rows left place t → HasAmountPlaces o t
 so_far-places skip o verdict rows left place t s = places-of o (drop 2 s.before) t s.claims s.few
 
 -- ---- the head
@@ -106,12 +108,12 @@ so_far-fault skip o verdict rows left place t r s =
     let last : body_fault o (Some verdict) (drop 2 s.before) r ≡ (if is_end r then end_fault verdict t r else record_fault o t r) = rw (s.going, sym s.claims) refl in
     next ∙ last
 
-so_far-size : (skip : ℕ) (o : Outline) (verdict : Verdict) (rows left : List (List (List ℕ))) (place : ℕ) (t : Claims) → (s : IsSoFar skip o verdict rows left place t) → length s.before + length left ≡ length rows
+pub so_far-size : (skip : ℕ) (o : Outline) (verdict : Verdict) (rows left : List (List (List ℕ))) (place : ℕ) (t : Claims) → (s : IsSoFar skip o verdict rows left place t) → length s.before + length left ≡ length rows
 so_far-size skip o verdict rows left place t s =
     let all = length-append s.before left in
     rw s.whole (omega arith)
 
-pub so_far-refused : (skip : ℕ) (o : Outline) (verdict : Verdict) (rows left : List (List (List ℕ))) (place at : ℕ) (t : Claims) (r : List (List ℕ)) (c : Code)
+pub so_far-refused : (skip : ℕ) (o : Outline) (verdict : Verdict) (rows left : List (List (List ℕ))) (place at : ℕ) (t : Claims) (r : List (List ℕ)) (c : PlanCode)
     → IsSoFar skip o verdict rows (r ∷ left) place t → at ≡ place + 1
     → (if is_end r then end_fault verdict t r else record_fault o t r) ≡ Some c → RefusesAt (refused.Fault at c) skip o rows
 so_far-refused skip o verdict rows left place at t r c s e fault =
@@ -120,8 +122,8 @@ so_far-refused skip o verdict rows left place at t r c s e fault =
     refuses-at skip o rows (length s.before) at c (omega arith) s.none (so_far-fault skip o verdict rows left place t r s ∙ fault) (omega arith)
 
 -- what taking a row answered
-pub row-refused : (why : Refused) (skip : ℕ) (o : Outline) (verdict : Verdict) (rows left : List (List (List ℕ))) (place at : ℕ) (t u : Claims) (r : List (List ℕ))
-    → IsSoFar skip o verdict rows (r ∷ left) place t → at ≡ place + 1 → TakesRow (Err why) o verdict t u r at → RefusesAt why skip o rows
+pub row-refused : (why : PlanRefused) (skip : ℕ) (o : Outline) (verdict : Verdict) (rows left : List (List (List ℕ))) (place at : ℕ) (t u : Claims) (r : List (List ℕ))
+    → IsSoFar skip o verdict rows (r ∷ left) place t → at ≡ place + 1 → IsRowTaken (Err why) o verdict t u r at → RefusesAt why skip o rows
 row-refused (refused.Fault k c) skip o verdict rows left place at t u r s e h = so_far-refused skip o verdict rows left place k t r c s (h.0 ∙ e) h.1
 row-refused refused.Memory skip o verdict rows left place at t u r s e h = tt
 

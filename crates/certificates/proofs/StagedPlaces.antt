@@ -9,9 +9,9 @@ use Rattle.np_model.specs.declared.scheme.FlowKind.{FlowKind}
 use Rattle.np_model.specs.declared.scheme.FlowKind.TheVariants.{Link, Hold, Drain, Feed}
 use Rattle.np_model.specs.declared.scheme.Flow.{Flow}
 use Rattle.np_model.specs.declared.scheme.Scheme.{Scheme}
-use Rattle.np_model.specs.Stages.{Stage}
-use Rattle.np_model.specs.Schemes.{is_hold, stage_in, stage_of, staged}
-use Rattle.np_model.specs.Valid.{periods_of}
+use Rattle.np_model.specs.Scheme.Segments.{Stage}
+use Rattle.np_model.specs.Scheme.Kinds.{is_hold, periods_of}
+use Rattle.np_model.specs.Scheme.Plans.{stage_in, stage_of, staged}
 use Rattle.certificates.specs.Claims.{place_with, outline_of}
 use Rattle.certificates.proofs.Rising.{Rises, rises-from, rises-append}
 

@@ -1,24 +1,27 @@
 -- The records that are written for a plan have no fault, and are those of the parts that were written.
-use Rattle.std.specs.Prelude.{◌≡◌, ℕ, ◌*◌, Bool, true, false, Option, Some, None, List, [], ◌∷◌, ◌++◌, length, replicate, codes, if◌then◌else◌}
-use Rattle.std.proofs.Common.{refl, sym, ap, ◌∙◌, subst}
+use Rattle.std.specs.Prelude.{◌≡◌, ℕ, ◌*◌, ◌&&◌, ◌||◌, Bool, true, false, IsTrue, Option, Some, None, IsSome, IfSome, IsSomeAnd, List, [], ◌∷◌, length, replicate, codes, if◌then◌else◌}
+use Rattle.std.specs.List.{All}
+use Rattle.std.proofs.Common.{refl, sym, ap, subst}
 use Rattle.std.proofs.lemmas.List.{length-map}
+use Rattle.np_frac.specs.Ratio.{Ratio}
+use Rattle.np_frac.specs.Fits.{Fits}
 use Rattle.np_model.specs.declared.scheme.Scheme.{Scheme}
-use Rattle.np_model.specs.declared.plan.Verdict.{Verdict}
-use Rattle.np_model.specs.declared.plan.Verdict.TheVariants as verdict
-use Rattle.np_model.specs.declared.plan.Entry.{Entry}
-use Rattle.np_model.specs.declared.plan.Log.{Log}
+use Rattle.np_model.specs.declared.log.Entry.{Entry}
+use Rattle.np_model.specs.declared.log.Log.{Log}
 use Rattle.np_model.specs.declared.plan.Plan.{Plan}
-use Rattle.np_model.specs.Fits.{LogFits, FitsAs, OptimalFits, InfeasibleFits, UnboundedFits, BudgetFits, OverflowFits, PlanFits}
+use Rattle.np_model.specs.declared.plan.Parts.{Parts}
+use Rattle.np_model.specs.Scheme.Fits.{IsShortNumber, LogFits, PlanFits}
+use Rattle.np_model.specs.Scheme.Verdicts.{verdict_word, parts_of}
 use Rattle.certificates.specs.Claims.{Outline, Claims, outline_of, claims_of}
-use Rattle.certificates.specs.Faults.{is_complete}
-use Rattle.certificates.specs.Grammar.{plan_fault, body_of, amount_of, flows_of, prices_of, ray_of, arc_of, passed_of, IsMadeOf, IsPlanOf}
-use Rattle.certificates.specs.Reading.{IsWholeRead}
-use Rattle.certificates.specs.Words.{verdict_word}
-use Rattle.certificates.specs.Writing.{claim_rows, shown_rows, log_rows, inner_rows, plan_rows, printed_parts, told, HasFractions}
+use Rattle.certificates.specs.Faults.{is_there, is_complete}
+use Rattle.certificates.specs.Grammar.{plan_fault, staged_amounts, node_amounts, IsMadeOf, IsPlanOf}
+use Rattle.certificates.specs.Steps.Texts.{IsWholeRead}
+use Rattle.certificates.specs.Writing.{staged_rows, price_rows, log_rows, part_if, list_if, claim_rows, shown_rows, inner_rows, plan_rows, told, HasFractions}
 use Rattle.certificates.proofs.Found.{amounts-none}
 use Rattle.certificates.proofs.OutlineFacts.{outline-is}
+use Rattle.certificates.proofs.PlanFacts.{HasPlace}
 use Rattle.certificates.proofs.WrittenWords.{verdict-back}
-use Rattle.certificates.proofs.WrittenSteps.{runs-cost, runs-gap, runs-arc, runs-passed, runs-log}
+use Rattle.certificates.proofs.WrittenSteps.{runs-cost, runs-gap, runs-arc, runs-overflow, runs-log}
 use Rattle.certificates.proofs.WrittenAmounts.{runs-flows, runs-ray, runs-prices}
 use Rattle.certificates.proofs.Runs.{Runs, runs-append, runs-whole}
 
@@ -28,7 +31,7 @@ record IsNew (scheme : Scheme) (t : Claims) : Type 0 where
   cost : t.cost ≡ None
   gap : t.gap ≡ None
   arc : t.arc ≡ None
-  passed : t.passed ≡ None
+  overflow : t.overflow ≡ None
   flows : t.flows ≡ replicate (scheme.periods * length scheme.flows) None
   prices : t.prices ≡ replicate (scheme.periods * length scheme.nodes) None
   ray : t.ray ≡ replicate (scheme.periods * length scheme.flows) None
@@ -44,7 +47,7 @@ new-claims scheme =
       cost = refl;
       gap = refl;
       arc = refl;
-      passed = refl;
+      overflow = refl;
       flows = sym (amounts-none (scheme.periods * length scheme.flows) (codes "flow") o.flows o.periods names);
       prices = sym (amounts-none (scheme.periods * length scheme.nodes) (codes "price") o.nodes o.periods refl);
       ray = sym (amounts-none (scheme.periods * length scheme.flows) (codes "ray") o.flows o.periods names);
@@ -52,172 +55,154 @@ new-claims scheme =
       entries = refl;
     }
 
--- ---- the log
+-- ---- parts that are printed
 
--- the log, where it was asked for
-abbrev told_log : Log → Bool → Log
-told_log log asked = if asked then log else record { turned = None; entries = [] }
+module _ {X : Type 0} (P : X → Type 0) where
+  -- a part that is there has the property where it is printed
+  part-has : (b : Bool) (o : Option X) → (IsTrue b → IsSomeAnd o P) → IfSome (part_if b o) P
+  part-has true None h = tt
+  part-has true (Some x) h = h refl
+  part-has false o h = tt
+
+  -- a part that one of two prints
+  either-left : (a b : Bool) (o : Option X) → IfSome (part_if (a || b) o) P → IfSome (part_if a o) P
+  either-left true b o h = h
+  either-left false b o h = tt
+
+  either-right : (a b : Bool) (o : Option X) → IfSome (part_if (a || b) o) P → IfSome (part_if b o) P
+  either-right true true o h = h
+  either-right true false o h = tt
+  either-right false true o h = h
+  either-right false false o h = tt
+
+  all-if : (b : Bool) (xs : List X) → All P (list_if b xs) → IsTrue b → All P xs
+  all-if true xs h asked = h
+  all-if false xs h asked = absurd (cc asked)
+
+  some-of : (o : Option X) → IsSomeAnd o P → IsSome o
+  some-of None h = absurd h
+  some-of (Some x) h = refl
+
+there-if : {X : Type 0} (b : Bool) (o : Option X) → (IsTrue b → IsSome o) → is_there b (part_if b o) ≡ true
+there-if true None h = absurd (cc (h refl))
+there-if true (Some x) h = refl
+there-if false o h = refl
+
+all-four : (a b c d : Bool) → a ≡ true → b ≡ true → c ≡ true → d ≡ true → (a && b && c && d) ≡ true
+all-four a b c d ha hb hc hd = rw (ha, hb, hc, hd) refl
+
+left-true : (a b : Bool) → IsTrue a → IsTrue (a || b)
+left-true a b h = rw h refl
+
+right-true : (a b : Bool) → IsTrue b → IsTrue (a || b)
+right-true true b h = refl
+right-true false b h = h
+
+part-again : {X : Type 0} (b : Bool) (o : Option X) → part_if b o ≡ part_if b (part_if b o)
+part-again true o = refl
+part-again false o = refl
+
+either-again : {X : Type 0} (a b : Bool) (o : Option X) → part_if (a || b) o ≡ (if a then part_if a o else if b then part_if b o else None)
+either-again true b o = refl
+either-again false true o = refl
+either-again false false o = refl
+
+-- amounts that are printed
+runs-if : (b : Bool) (o : Outline) (t : Claims) (rows : List (List (List ℕ))) (put : List (Option Ratio) → Claims) (back : List (Option Ratio) → List Ratio) (amounts : List Ratio)
+    → (start : List (Option Ratio)) → t ≡ put start
+    → (IsTrue b → (given : List (Option Ratio)) × Runs o t rows (put given) × (back given ≡ amounts))
+    → (given : List (Option Ratio)) × Runs o t (list_if b rows) (put given) × (list_if b amounts ≡ list_if b (back given))
+runs-if true o t rows put back amounts start e run = let r = run refl in (r.0, r.1, sym r.2)
+runs-if false o t rows put back amounts start e run = (start, e, refl)
+
+-- ---- the log
 
 no-log : (t : Claims) (turned : Option ℕ) (entries : List Entry) → t.turned ≡ turned → t.entries ≡ entries → t ≡ record t { turned = turned; entries = entries }
 no-log t turned entries a b = rw (sym a, sym b) refl
 
 runs-told : (o : Outline) (t : Claims) (log : Log) (asked : Bool) → LogFits log → t.turned ≡ None → t.entries ≡ []
-    → Runs o t (if asked then log_rows log else []) (record t { turned = (told_log log asked).turned; entries = (told_log log asked).entries })
+    → Runs o t (list_if asked (log_rows log)) (record t { turned = part_if asked log.turned; entries = list_if asked log.entries })
 runs-told o t log true fit turned none = runs-log o t log fit turned none
 runs-told o t log false fit turned none = no-log t None [] turned none
 
--- ---- what is told of a plan of a verdict
-
--- the parts that the verdict prints, and the log where it was asked for
-abbrev told_as : Verdict → Plan → Bool → Plan
-told_as v plan log = record (printed_parts v plan) { log = told_log plan.log log }
-
-told-is : (v : Verdict) (plan : Plan) (log : Bool) → (if log then printed_parts v plan else record (printed_parts v plan) { log = record { turned = None; entries = [] } }) ≡ told_as v plan log
-told-is verdict.Optimal plan true = refl
-told-is verdict.Infeasible plan true = refl
-told-is verdict.Unbounded plan true = refl
-told-is verdict.Budget plan true = refl
-told-is verdict.Overflow plan true = refl
-told-is v plan false = refl
-
-printed-verdict : (v : Verdict) (plan : Plan) → (printed_parts v plan).verdict ≡ plan.verdict
-printed-verdict verdict.Optimal plan = refl
-printed-verdict verdict.Infeasible plan = refl
-printed-verdict verdict.Unbounded plan = refl
-printed-verdict verdict.Budget plan = refl
-printed-verdict verdict.Overflow plan = refl
-
--- the parts of a plan of this verdict are those of the claims
-record HasParts (v : Verdict) (scheme : Scheme) (t : Claims) (plan : Plan) : Type 0 where
-  amount : plan.amount ≡ amount_of v t
-  flows : plan.flows ≡ flows_of v scheme t
-  prices : plan.prices ≡ prices_of v t
-  ray : plan.ray ≡ ray_of v scheme t
-  arc : plan.arc ≡ arc_of v t
-  overflow : plan.overflow ≡ passed_of v t
-  turned : plan.log.turned ≡ t.turned
-  entries : plan.log.entries ≡ t.entries
+-- ---- what is told of a plan
 
 -- from these claims the records lead to all that the verdict needs, and to the parts that are told
-record IsTold (v : Verdict) (scheme : Scheme) (t : Claims) (plan : Plan) (log : Bool) : Type 0 where
+record IsTold (scheme : Scheme) (t : Claims) (plan : Plan) (log : Bool) : Type 0 where
   claims : Claims
-  run : Runs (outline_of scheme) t (claim_rows v plan ++ shown_rows v scheme plan ++ (if log then log_rows plan.log else [])) claims
-  complete : is_complete v claims ≡ true
-  parts : HasParts v scheme claims (told_as v plan log)
-
-module _ (scheme : Scheme) (t : Claims) (plan : Plan) (log : Bool) (new : IsNew scheme t) where
-  optimal-told : OptimalFits scheme plan → HasFractions (told_as verdict.Optimal plan log) → IsTold verdict.Optimal scheme t plan log
-  optimal-told fit has =
-      let o = outline_of scheme in
-      let a = record t { cost = plan.amount } in
-      let claim = runs-cost o t plan.amount has.amount new.cost in
-      let flows = runs-flows scheme a plan.flows fit.flows has.flows new.flows in
-      let b = record a { flows = flows.0 } in
-      let prices = runs-prices scheme b plan.prices fit.prices has.prices new.prices in
-      let d = record b { prices = prices.0 } in
-      record {
-        claims = record d { turned = (told_log plan.log log).turned; entries = (told_log plan.log log).entries };
-        run = runs-append o _ _ t d _ (runs-append o _ _ t a d claim (runs-append o _ _ a b d flows.1 prices.1)) (runs-told o d plan.log log fit.log new.turned new.entries);
-        complete = fit.amount;
-        parts = record { amount = refl; flows = sym flows.2; prices = sym prices.2; ray = refl; arc = refl; overflow = refl; turned = refl; entries = refl };
-      }
-
-  infeasible-told : InfeasibleFits scheme plan → HasFractions (told_as verdict.Infeasible plan log) → IsTold verdict.Infeasible scheme t plan log
-  infeasible-told fit has =
-      let o = outline_of scheme in
-      let a = record t { gap = plan.amount } in
-      let claim = runs-gap o t plan.amount has.amount new.gap in
-      let prices = runs-prices scheme a plan.prices fit.prices has.prices new.prices in
-      let d = record a { prices = prices.0 } in
-      record {
-        claims = record d { turned = (told_log plan.log log).turned; entries = (told_log plan.log log).entries };
-        run = runs-append o _ _ t d _ (runs-append o _ _ t a d claim prices.1) (runs-told o d plan.log log fit.log new.turned new.entries);
-        complete = fit.amount;
-        parts = record { amount = refl; flows = refl; prices = sym prices.2; ray = refl; arc = refl; overflow = refl; turned = refl; entries = refl };
-      }
-
-  unbounded-told : UnboundedFits scheme plan → HasFractions (told_as verdict.Unbounded plan log) → IsTold verdict.Unbounded scheme t plan log
-  unbounded-told fit has =
-      let o = outline_of scheme in
-      let flows = runs-flows scheme t plan.flows fit.flows has.flows new.flows in
-      let b = record t { flows = flows.0 } in
-      let ray = runs-ray scheme b plan.ray fit.ray has.ray new.ray in
-      let d = record b { ray = ray.0 } in
-      record {
-        claims = record d { turned = (told_log plan.log log).turned; entries = (told_log plan.log log).entries };
-        run = runs-append o _ _ t d _ (runs-append o _ _ t b d flows.1 ray.1) (runs-told o d plan.log log fit.log new.turned new.entries);
-        complete = refl;
-        parts = record { amount = refl; flows = sym flows.2; prices = refl; ray = sym ray.2; arc = refl; overflow = refl; turned = refl; entries = refl };
-      }
-
-  budget-told : BudgetFits plan → IsTold verdict.Budget scheme t plan log
-  budget-told fit =
-      let o = outline_of scheme in
-      let d = record t { arc = plan.arc } in
-      let claim = runs-arc o t plan.arc fit.number new.arc in
-      record {
-        claims = record d { turned = (told_log plan.log log).turned; entries = (told_log plan.log log).entries };
-        run = runs-append o _ _ t d _ (runs-append o _ [] t d d claim refl) (runs-told o d plan.log log fit.log new.turned new.entries);
-        complete = fit.arc;
-        parts = record { amount = refl; flows = refl; prices = refl; ray = refl; arc = refl; overflow = refl; turned = refl; entries = refl };
-      }
-
-  overflow-told : OverflowFits plan → HasFractions (told_as verdict.Overflow plan log) → IsTold verdict.Overflow scheme t plan log
-  overflow-told fit has =
-      let o = outline_of scheme in
-      let d = record t { passed = plan.overflow } in
-      let claim = runs-passed o t plan.overflow fit.place has.operands new.passed in
-      record {
-        claims = record d { turned = (told_log plan.log log).turned; entries = (told_log plan.log log).entries };
-        run = runs-append o _ _ t d _ (runs-append o _ [] t d d claim refl) (runs-told o d plan.log log fit.log new.turned new.entries);
-        complete = fit.passed;
-        parts = record { amount = refl; flows = refl; prices = refl; ray = refl; arc = refl; overflow = refl; turned = refl; entries = refl };
-      }
-
-  all-told : (v : Verdict) → FitsAs v scheme plan → HasFractions (told_as v plan log) → IsTold v scheme t plan log
-  all-told verdict.Optimal fit has = optimal-told fit has
-  all-told verdict.Infeasible fit has = infeasible-told fit has
-  all-told verdict.Unbounded fit has = unbounded-told fit has
-  all-told verdict.Budget fit has = budget-told fit
-  all-told verdict.Overflow fit has = overflow-told fit has
-
--- ---- the whole text
-
-made-of : (v : Verdict) (scheme : Scheme) (t : Claims) (plan : Plan) → plan.verdict ≡ v → HasParts v scheme t plan → IsMadeOf scheme t plan
-made-of v scheme t plan e h = record {
-  amount = rw e h.amount;
-  flows = rw e h.flows;
-  prices = rw e h.prices;
-  ray = rw e h.ray;
-  arc = rw e h.arc;
-  overflow = rw e h.overflow;
-  turned = h.turned;
-  entries = h.entries;
-}
+  run : Runs (outline_of scheme) t (inner_rows scheme plan log) claims
+  complete : is_complete plan.verdict claims ≡ true
+  made : IsMadeOf scheme claims (told plan log)
 
 module _ (scheme : Scheme) (plan : Plan) (log : Bool) (fit : PlanFits scheme plan) (has : HasFractions (told plan log)) where
-  abbrev told_parts : IsTold plan.verdict scheme (claims_of (outline_of scheme) []) plan log
-  told_parts = all-told scheme (claims_of (outline_of scheme) []) plan log (new-claims scheme) plan.verdict fit (subst HasFractions (told-is plan.verdict plan log) has)
+  abbrev parts : Parts
+  parts = parts_of plan.verdict
+
+  abbrev amount_there : IsTrue parts.cost → IsSome plan.amount
+  amount_there asked = fit.amount (left-true parts.cost parts.gap asked)
+
+  abbrev gap_there : IsTrue parts.gap → IsSome plan.amount
+  gap_there asked = fit.amount (right-true parts.cost parts.gap asked)
+
+  all-told : (t : Claims) → IsNew scheme t → IsTold scheme t plan log
+  all-told t new =
+      let o = outline_of scheme in
+      let a = record t { cost = part_if parts.cost plan.amount } in
+      let b = record a { gap = part_if parts.gap plan.amount } in
+      let c = record b { arc = part_if parts.arc plan.arc } in
+      let d = record c { overflow = part_if parts.overflow plan.overflow } in
+      let cost = runs-cost o t (part_if parts.cost plan.amount) (either-left Fits parts.cost parts.gap plan.amount has.amount) new.cost in
+      let gap = runs-gap o a (part_if parts.gap plan.amount) (either-right Fits parts.cost parts.gap plan.amount has.amount) new.gap in
+      let arc = runs-arc o b (part_if parts.arc plan.arc) (part-has IsShortNumber parts.arc plan.arc fit.arc) new.arc in
+      let overflow = runs-overflow o c (part_if parts.overflow plan.overflow) (part-has HasPlace parts.overflow plan.overflow fit.overflow) has.operands new.overflow in
+      let flows = runs-if parts.flows o d (staged_rows (codes "flow") scheme plan.flows) (λ given. record d { flows = given }) (staged_amounts scheme) plan.flows d.flows refl
+      (λ asked. runs-flows scheme d plan.flows (fit.flows asked) (all-if Fits parts.flows plan.flows has.flows asked) new.flows) in
+      let e = record d { flows = flows.0 } in
+      let prices = runs-if parts.prices o e (price_rows scheme plan.prices) (λ given. record e { prices = given }) node_amounts plan.prices e.prices refl
+      (λ asked. runs-prices scheme e plan.prices (fit.prices asked) (all-if Fits parts.prices plan.prices has.prices asked) new.prices) in
+      let f = record e { prices = prices.0 } in
+      let ray = runs-if parts.ray o f (staged_rows (codes "ray") scheme plan.ray) (λ given. record f { ray = given }) (staged_amounts scheme) plan.ray f.ray refl
+      (λ asked. runs-ray scheme f plan.ray (fit.ray asked) (all-if Fits parts.ray plan.ray has.ray asked) new.ray) in
+      let g = record f { ray = ray.0 } in
+      let claim : Runs o t (claim_rows parts plan) d = runs-append o _ _ t c d (runs-append o _ _ t b c (runs-append o _ _ t a b cost gap) arc) overflow in
+      let shown : Runs o d (shown_rows parts scheme plan) g = runs-append o _ _ d f g (runs-append o _ _ d e f flows.1 prices.1) ray.1 in
+      record {
+        claims = record g { turned = part_if log plan.log.turned; entries = list_if log plan.log.entries };
+        run = runs-append o _ _ t g _ (runs-append o _ _ t d g claim shown) (runs-told o g plan.log log fit.log new.turned new.entries);
+        complete =
+            all-four _ _ _ _ (there-if parts.cost plan.amount amount_there) (there-if parts.gap plan.amount gap_there)
+            (there-if parts.arc plan.arc (λ asked. some-of IsShortNumber plan.arc (fit.arc asked)))
+            (there-if parts.overflow plan.overflow (λ asked. some-of HasPlace plan.overflow (fit.overflow asked)));
+        made = record {
+          amount = either-again parts.cost parts.gap plan.amount;
+          flows = flows.2;
+          prices = prices.2;
+          ray = ray.2;
+          arc = part-again parts.arc plan.arc;
+          overflow = part-again parts.overflow plan.overflow;
+          turned = refl;
+          entries = refl;
+        };
+      }
+
+  -- ---- the whole text
+
+  abbrev told_here : IsTold scheme (claims_of (outline_of scheme) []) plan log
+  told_here = all-told (claims_of (outline_of scheme) []) (new-claims scheme)
 
   -- the records between the head and `end` lead from no claims to those of what is told
   pub inner-run : (u : Claims) × Runs (outline_of scheme) (claims_of (outline_of scheme) []) (inner_rows scheme plan log) u
-  inner-run = (told_parts.claims, told_parts.run)
+  inner-run = (told_here.claims, told_here.run)
 
-  written-whole : (skip : ℕ) → IsWholeRead skip (outline_of scheme) (plan_rows scheme plan log) plan.verdict told_parts.claims
+  written-whole : (skip : ℕ) → IsWholeRead skip (outline_of scheme) (plan_rows scheme plan log) plan.verdict told_here.claims
   written-whole skip =
-      runs-whole skip (outline_of scheme) plan.verdict (codes "netplan-plan" ∷ codes "1" ∷ []) (codes "verdict" ∷ verdict_word plan.verdict ∷ []) (inner_rows scheme plan log) told_parts.claims
-      (outline-is scheme) refl (verdict-back plan.verdict) told_parts.run told_parts.complete
+      runs-whole skip (outline_of scheme) plan.verdict (codes "netplan-plan" ∷ codes "1" ∷ []) (codes "verdict" ∷ verdict_word plan.verdict ∷ []) (inner_rows scheme plan log) told_here.claims
+      (outline-is scheme) refl (verdict-back plan.verdict) told_here.run told_here.complete
 
   pub written-read : (skip : ℕ) → plan_fault skip (outline_of scheme) (plan_rows scheme plan log) ≡ None
   written-read skip = (written-whole skip).fault
 
   pub written-plan : IsPlanOf scheme (plan_rows scheme plan log) (told plan log)
   written-plan =
-      let v = plan.verdict in
       let whole = written-whole 0 in
-      let same : (told_as v plan log).verdict ≡ v = printed-verdict v plan in
-      let made = made-of v scheme told_parts.claims (told_as v plan log) same told_parts.parts in
-      let of_rows : IsMadeOf scheme (claims_of (outline_of scheme) (body_of (plan_rows scheme plan log))) (told_as v plan log) =
-      subst (λ (t : Claims). IsMadeOf scheme t (told_as v plan log)) whole.claims_are made in
-      let read : IsPlanOf scheme (plan_rows scheme plan log) (told_as v plan log) = record { verdict = whole.verdict_is ∙ ap Some (sym same); made = of_rows } in
-      subst (λ (p : Plan). IsPlanOf scheme (plan_rows scheme plan log) p) (sym (told-is v plan log)) read
+      record { verdict = whole.verdict_is; made = subst (λ (t : Claims). IsMadeOf scheme t (told plan log)) whole.claims_are told_here.made }

@@ -9,17 +9,18 @@ use Rattle.std.proofs.lemmas.List.Elements.{recursion_from_All}
 use Rattle.std.proofs.lemmas.List.FromFn.{fill_by_all}
 use Rattle.std.proofs.lemmas.Slice.Zip.{firsts-zip, seconds-zip}
 use Rattle.np_frac.specs.Ratio.{Ratio, zero_ratio}
-use Rattle.np_frac.specs.Lowest.{Fits}
+use Rattle.np_frac.specs.Fits.{Fits}
 use Rattle.np_model.specs.declared.scheme.Scheme.{Scheme}
-use Rattle.np_model.specs.Schemes.{staged}
-use Rattle.np_model.specs.Stages.{Stage}
-use Rattle.certificates.specs.Claims.{Claims, flow_names, outline_of, place_with}
+use Rattle.np_model.specs.Scheme.Plans.{staged}
+use Rattle.np_model.specs.Scheme.Segments.{Stage}
+use Rattle.certificates.specs.Claims.{Claims, outline_of, place_with}
+use Rattle.np_model.specs.Scheme.Names.{flow_names}
 use Rattle.certificates.specs.Faults.{last_for}
 use Rattle.certificates.specs.Grammar.{amount_at, staged_amounts, node_amounts}
 use Rattle.certificates.specs.Writing.{staged_rows, price_rows}
 use Rattle.certificates.proofs.AmountRows.{IsGiven, place_for, row_for, IsTaken, runs-amounts}
 use Rattle.certificates.proofs.Found.{get-slice}
-use Rattle.net_csv.proofs.WrittenNames.{place-own}
+use Rattle.certificates.proofs.NameTables.{place-own}
 use Rattle.certificates.proofs.Rising.{Rises, rises-range, filled, filled-length, filled-amounts}
 use Rattle.certificates.proofs.Runs.{Runs}
 use Rattle.certificates.proofs.StagedPlaces.{stage_place, IsArcOf, rises-staged, arcs-staged}

@@ -1,5 +1,5 @@
 -- The records that are written, one after the other.
-use Rattle.std.specs.Prelude.{◌≡◌, ℕ, ◌+◌, ◌<◌, ◌≤◌, Bool, List, [], ◌∷◌, ◌++◌, length, map, take, get_or, codes, if◌then◌else◌}
+use Rattle.std.specs.Prelude.{◌≡◌, ℕ, ◌+◌, ◌<◌, ◌≤◌, Bool, List, [], ◌∷◌, ◌++◌, length, map, take, get_or, codes}
 use Rattle.std.specs.List.{zip, enumerate_from}
 use Rattle.std.proofs.Common.{sym, ap, ap₂, ◌∙◌, arith, append_assoc}
 use Rattle.std.proofs.lemmas.List.{take_more, take_all, flat_map_more, map-append}
@@ -8,8 +8,9 @@ use Rattle.std.proofs.lemmas.List.FromFn.{length-enumerate_from, get_or-enumerat
 use Rattle.std.proofs.lemmas.Slice.Zip.{length-zip, get_or-zip}
 use Rattle.np_records.specs.Texts.{record_text, records_text}
 use Rattle.np_model.specs.declared.plan.Plan.{Plan}
+use Rattle.np_model.specs.Scheme.Verdicts.{parts_of}
 use Rattle.np_model.specs.declared.scheme.Scheme.{Scheme}
-use Rattle.certificates.specs.Writing.{head_rows, claim_rows, shown_rows, log_rows, plan_rows}
+use Rattle.certificates.specs.Writing.{list_if, head_rows, claim_rows, shown_rows, log_rows, plan_rows}
 
 -- ---- lists
 
@@ -45,18 +46,29 @@ paired-more {X} {Y} f old xs ys i x y e h at_x at_y =
 
 -- ---- the whole
 
-joined : (head claim shown log : List (List (List ℕ))) (end : List (List ℕ))
-    → records_text head ++ records_text claim ++ records_text shown ++ records_text log ++ record_text end ≡ records_text (head ++ (claim ++ shown ++ log) ++ end ∷ [])
-joined head claim shown log end =
-    let inner : records_text (claim ++ shown ++ log) ≡ records_text claim ++ records_text shown ++ records_text log =
-    flat_map-append record_text (claim ++ shown) log ∙ ap (λ (l : List ℕ). l ++ records_text log) (flat_map-append record_text claim shown) in
-    let before : records_text (head ++ (claim ++ shown ++ log)) ≡ records_text head ++ records_text claim ++ records_text shown ++ records_text log =
-    flat_map-append record_text head (claim ++ shown ++ log) ∙ rw inner (sym (append_assoc (records_text head) (records_text claim ++ records_text shown) (records_text log)) ∙ ap (λ (l : List ℕ). l ++ records_text log) (sym (append_assoc (records_text head) (records_text claim) (records_text shown)))) in
-    rw (sym before) (flat_map_more record_text [] (head ++ (claim ++ shown ++ log)) end)
+pub joined-two : (old : List ℕ) (a b : List (List (List ℕ))) → old ++ records_text a ++ records_text b ≡ old ++ records_text (a ++ b)
+joined-two old a b = append_assoc old (records_text a) (records_text b) ∙ ap (λ (l : List ℕ). old ++ l) (sym (flat_map-append record_text a b))
+
+pub joined-three : (old : List ℕ) (a b c : List (List (List ℕ))) → old ++ records_text a ++ records_text b ++ records_text c ≡ old ++ records_text (a ++ b ++ c)
+joined-three old a b c = ap (λ (l : List ℕ). l ++ records_text c) (joined-two old a b) ∙ joined-two old (a ++ b) c
+
+pub joined-four : (old : List ℕ) (a b c d : List (List (List ℕ))) → old ++ records_text a ++ records_text b ++ records_text c ++ records_text d ≡ old ++ records_text (a ++ b ++ c ++ d)
+joined-four old a b c d = ap (λ (l : List ℕ). l ++ records_text d) (joined-three old a b c) ∙ joined-two old (a ++ b ++ c) d
 
 -- each call has added its records
-pub whole-text : (scheme : Scheme) (plan : Plan) (log : Bool) (a b c d e : List ℕ) → a ≡ [] ++ records_text (head_rows plan.verdict) → b ≡ a ++ records_text (claim_rows plan.verdict plan)
-    → c ≡ b ++ records_text (shown_rows plan.verdict scheme plan) → d ≡ c ++ records_text (if log then log_rows plan.log else [])
+pub three-more : (old x y z : List ℕ) (a b c : List (List (List ℕ))) → x ≡ old ++ records_text a → y ≡ x ++ records_text b → z ≡ y ++ records_text c → z ≡ old ++ records_text (a ++ b ++ c)
+three-more old x y z a b c hx hy hz = rw (hz, hy, hx) (joined-three old a b c)
+
+pub four-more : (old x y z w : List ℕ) (a b c d : List (List (List ℕ))) → x ≡ old ++ records_text a → y ≡ x ++ records_text b → z ≡ y ++ records_text c → w ≡ z ++ records_text d
+    → w ≡ old ++ records_text (a ++ b ++ c ++ d)
+four-more old x y z w a b c d hx hy hz hw = rw (hw, hz, hy, hx) (joined-four old a b c d)
+
+pub whole-text : (scheme : Scheme) (plan : Plan) (log : Bool) (a b c d e : List ℕ) → a ≡ [] ++ records_text (head_rows plan.verdict) → b ≡ a ++ records_text (claim_rows (parts_of plan.verdict) plan)
+    → c ≡ b ++ records_text (shown_rows (parts_of plan.verdict) scheme plan) → d ≡ c ++ records_text (list_if log (log_rows plan.log))
     → e ≡ d ++ record_text (codes "end" ∷ []) → e ≡ records_text (plan_rows scheme plan log)
 whole-text scheme plan log a b c d e ha hb hc hd he =
-    rw (he, hd, hc, hb, ha) (joined (head_rows plan.verdict) (claim_rows plan.verdict plan) (shown_rows plan.verdict scheme plan) (if log then log_rows plan.log else []) (codes "end" ∷ []))
+    let head = head_rows plan.verdict in
+    let inner = claim_rows (parts_of plan.verdict) plan ++ shown_rows (parts_of plan.verdict) scheme plan ++ list_if log (log_rows plan.log) in
+    let after = three-more a b c d (claim_rows (parts_of plan.verdict) plan) (shown_rows (parts_of plan.verdict) scheme plan) (list_if log (log_rows plan.log)) hb hc hd in
+    let all : d ≡ [] ++ records_text (head ++ inner) = after ∙ ap (λ (l : List ℕ). l ++ records_text inner) ha ∙ joined-two [] head inner in
+    he ∙ ap (λ (l : List ℕ). l ++ record_text (codes "end" ∷ [])) all ∙ flat_map_more record_text [] (head ++ inner) (codes "end" ∷ [])

@@ -8,11 +8,11 @@ use Rattle.std.proofs.lemmas.Bool.Decides.{nat_tests}
 use Rattle.std.proofs.lemmas.List.{append-nil, length-append}
 use Rattle.std.proofs.lemmas.List.Elements.{recursion_from_All}
 use Rattle.np_frac.specs.Ratio.{Ratio}
-use Rattle.np_frac.specs.Lowest.{Fits}
-use Rattle.np_model.specs.declared.plan.Overflow.{Overflow}
-use Rattle.np_model.specs.declared.plan.Entry.{Entry}
-use Rattle.np_model.specs.declared.plan.Log.{Log}
-use Rattle.np_model.specs.Fits.{IsNumber, LogFits}
+use Rattle.np_frac.specs.Fits.{Fits}
+use Rattle.np_model.specs.declared.rows.Overflow.{Overflow}
+use Rattle.np_model.specs.declared.log.Entry.{Entry}
+use Rattle.np_model.specs.declared.log.Log.{Log}
+use Rattle.np_model.specs.Scheme.Fits.{IsShortNumber, LogFits}
 use Rattle.certificates.specs.Claims.{Outline, Claims}
 use Rattle.certificates.specs.Faults.{is_next}
 use Rattle.certificates.specs.Writing.{amount_row, number_row, past_row, pivot_row, log_rows}
@@ -36,23 +36,23 @@ runs-gap o t (Some amount) fit free =
     let back = fraction-back amount fit in
     (record { goes = refl; right = rw (back, free) refl }, rw back refl)
 
-pub runs-arc : (o : Outline) (t : Claims) (arc : Option ℕ) → IfSome arc IsNumber → t.arc ≡ None
+pub runs-arc : (o : Outline) (t : Claims) (arc : Option ℕ) → IfSome arc IsShortNumber → t.arc ≡ None
     → Runs o t (option_to_list (option_map (number_row (codes "arc")) arc)) (record t { arc = arc })
 runs-arc o t None fit free = rw (sym free) refl
 runs-arc o t (Some arc) fit free =
     let back = whole-back arc fit in
     (record { goes = refl; right = rw (back, free) refl }, rw back refl)
 
-pub runs-passed : (o : Outline) (t : Claims) (passed : Option Overflow) → IfSome passed HasPlace → IfSome passed (λ p. Fits p.past.left × Fits p.past.right) → t.passed ≡ None
-    → Runs o t (option_to_list (option_map past_row passed)) (record t { passed = passed })
-runs-passed o t None place operands free = rw (sym free) refl
-runs-passed o t (Some passed) place operands free =
-    let back = overflow-back passed place operands in
+pub runs-overflow : (o : Outline) (t : Claims) (overflow : Option Overflow) → IfSome overflow HasPlace → IfSome overflow (λ p. Fits p.past.left × Fits p.past.right) → t.overflow ≡ None
+    → Runs o t (option_to_list (option_map past_row overflow)) (record t { overflow = overflow })
+runs-overflow o t None place operands free = rw (sym free) refl
+runs-overflow o t (Some overflow) place operands free =
+    let back = overflow-back overflow place operands in
     (record { goes = refl; right = rw (back, free) refl }, rw back refl)
 
 -- ---- the log
 
-pub runs-turned : (o : Outline) (t : Claims) (turned : Option ℕ) → IfSome turned IsNumber → t.turned ≡ None
+pub runs-turned : (o : Outline) (t : Claims) (turned : Option ℕ) → IfSome turned IsShortNumber → t.turned ≡ None
     → Runs o t (option_to_list (option_map (number_row (codes "turned")) turned)) (record t { turned = turned })
 runs-turned o t None fit free = rw (sym free) refl
 runs-turned o t (Some turned) fit free =

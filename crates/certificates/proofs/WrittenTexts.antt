@@ -1,24 +1,19 @@
 -- The bytes of the records that are written for a plan are read as these records.
-use Rattle.std.specs.Prelude.{◌≡◌, ◌≢◌, ℕ, Bool, true, false, Ok, List, [], ◌∷◌, ◌++◌, length, drop, codes}
+use Rattle.std.specs.Prelude.{◌≡◌, ◌≢◌, ℕ, Bool, List, [], ◌∷◌, ◌++◌, codes}
 use Rattle.std.specs.List.{All, AllByRecursion}
-use Rattle.std.proofs.Common.{refl, sym, subst, ap, arith, ◌∙◌}
+use Rattle.std.proofs.Common.{ap, arith, ◌∙◌}
 use Rattle.std.proofs.lemmas.List.Elements.{All-from_recursion, All-append, All-cons, All-nil, All-tail}
-use Rattle.std.proofs.lemmas.List.{drop_at}
-use Rattle.std.proofs.lemmas.List.Concat.{flat_map-append}
 use Rattle.np_records.specs.Records.{records_of}
-use Rattle.np_records.specs.Texts.{record_text, records_text}
+use Rattle.np_records.specs.Texts.{records_text}
 use Rattle.np_records.proofs.TextFacts.{records-headed, back-whole}
 use Rattle.np_model.specs.declared.scheme.Scheme.{Scheme}
 use Rattle.np_model.specs.declared.plan.Plan.{Plan}
-use Rattle.np_model.specs.Fits.{PlanFits}
-use Rattle.net_csv.specs.declared.refused.Tail.TheVariants as tail
-use Rattle.net_csv.specs.Grammar.{read_records, IsSchemeOf}
-use Rattle.net_csv.specs.Writing.{rows_of}
+use Rattle.np_model.specs.Scheme.Fits.{PlanFits}
 use Rattle.certificates.specs.Claims.{Outline, Claims}
-use Rattle.certificates.specs.Reading.{with_record}
-use Rattle.certificates.specs.Words.{verdict_word}
-use Rattle.certificates.specs.Writing.{inner_rows, plan_rows, printed_parts, told, HasFractions}
-use Rattle.certificates.specs.ReadBack.{IsReadAs, IsReadBehind}
+use Rattle.certificates.specs.Steps.Claims.{with_record}
+use Rattle.np_model.specs.Scheme.Verdicts.{verdict_word}
+use Rattle.certificates.specs.Writing.{inner_rows, plan_rows, told, HasFractions}
+use Rattle.certificates.specs.Reading.{IsReadAs}
 use Rattle.certificates.proofs.Runs.{Runs}
 use Rattle.certificates.proofs.Written.{inner-run, written-read, written-plan}
 
@@ -52,45 +47,8 @@ module _ (scheme : Scheme) (plan : Plan) (log : Bool) (fit : PlanFits scheme pla
   pub written-as : IsReadAs scheme (plan_rows scheme plan log) (told plan log)
   written-as = record { whole = written-read scheme plan log fit has; plan_is = written-plan scheme plan log fit has }
 
--- what is known of the records of a scheme with others behind them
-abbrev pub AreFollowed : Type 0
-AreFollowed =
-    (scheme : Scheme) (after : List (List (List ℕ))) → (read_records tail.Plan (rows_of scheme ++ after) ≡ Ok (length (rows_of scheme)))
-    × IsSchemeOf (rows_of scheme ++ after) scheme
-
-abbrev pub AreBytes : Type 0
-AreBytes =
-    (scheme : Scheme) (after : List (List (List ℕ))) → All (λ fields. fields ≢ []) after
-    → records_of (records_text (rows_of scheme ++ after)) ≡ rows_of scheme ++ after
-
-pub written-behind : AreFollowed → AreBytes → (scheme : Scheme) (plan : Plan) (log : Bool) → PlanFits scheme plan → HasFractions (told plan log)
-    → IsReadBehind scheme (records_of (records_text (rows_of scheme ++ plan_rows scheme plan log))) (told plan log)
-written-behind followed bytes scheme plan log fit has =
-    let rows = plan_rows scheme plan log in
-    let read = followed scheme rows in
-    let as_rows = bytes scheme rows (written-full scheme plan log fit has) in
-    let left : drop (length (rows_of scheme)) (rows_of scheme ++ rows) ≡ rows = drop_at (rows_of scheme) rows (length (rows_of scheme)) refl in
-    let here : IsReadBehind scheme (rows_of scheme ++ rows) (told plan log) = record {
-      network = read.0;
-      scheme_is = read.1;
-      rest = subst (λ (rs : List (List (List ℕ))). IsReadAs scheme rs (told plan log)) (sym left) (written-as scheme plan log fit has);
-    } in
-    subst (λ (rs : List (List (List ℕ))). IsReadBehind scheme rs (told plan log)) (sym as_rows) here
-
 -- ---- the text that was written
 
 pub text-back : (scheme : Scheme) (plan : Plan) (log : Bool) (bytes : List ℕ) → bytes ≡ records_text (plan_rows scheme plan log) → PlanFits scheme plan → HasFractions (told plan log)
     → IsReadAs scheme (records_of bytes) (told plan log)
 text-back scheme plan log bytes e fit has = rw (e, written-records scheme plan log fit has) (written-as scheme plan log fit has)
-
-pub text-behind : AreFollowed → AreBytes → (scheme : Scheme) (plan : Plan) (log : Bool) (bytes : List ℕ) → bytes ≡ records_text (plan_rows scheme plan log) → PlanFits scheme plan → HasFractions (told plan log)
-    → IsReadBehind scheme (records_of (records_text (rows_of scheme) ++ bytes)) (told plan log)
-text-behind followed all scheme plan log bytes e fit has =
-    let joined : records_text (rows_of scheme) ++ bytes ≡ records_text (rows_of scheme ++ plan_rows scheme plan log) =
-    ap (λ (bs : List ℕ). records_text (rows_of scheme) ++ bs) e ∙ sym (flat_map-append record_text (rows_of scheme) (plan_rows scheme plan log)) in
-    subst (λ (bs : List ℕ). IsReadBehind scheme (records_of bs) (told plan log)) (sym joined) (written-behind followed all scheme plan log fit has)
-
--- what was written of the parts of a verdict fits fractions, and so does what is told
-pub told-fits : (plan : Plan) (log : Bool) → HasFractions (printed_parts plan.verdict plan) → HasFractions (told plan log)
-told-fits plan true h = h
-told-fits plan false h = record { amount = h.amount; flows = h.flows; prices = h.prices; ray = h.ray; operands = h.operands }

@@ -6,32 +6,33 @@ use Rattle.std.proofs.lemmas.Bool.{cases_Bool}
 use Rattle.std.proofs.lemmas.Fmt.{decimal_is_IsNumeral, length-decimal-le}
 use Rattle.std.proofs.lemmas.Slice.Eq.{bytes_eq-Decides}
 use Rattle.np_frac.specs.Ratio.{Ratio}
-use Rattle.np_frac.specs.Lowest.{Fits}
-use Rattle.np_frac.specs.Text.{number, printed, IsNumber}
+use Rattle.np_frac.specs.Fits.{Fits}
+use Rattle.np_frac.specs.Text.{number, printed, IsNumber, is_number}
 use Rattle.np_frac.specs.declared.frac.Op.{Op}
 use Rattle.np_frac.specs.declared.frac.Op.TheVariants as op
 use Rattle.np_frac.proofs.ReadsBack.{printed_is_fraction, fraction_of_printed}
 use Rattle.np_model.specs.declared.plan.Verdict.{Verdict}
 use Rattle.np_model.specs.declared.plan.Verdict.TheVariants as verdict
-use Rattle.np_model.specs.declared.plan.Mark.{Mark}
-use Rattle.np_model.specs.declared.plan.Mark.TheVariants as mark
-use Rattle.np_model.specs.declared.plan.Row.{Row}
-use Rattle.np_model.specs.declared.plan.Row.TheVariants as row
-use Rattle.np_model.specs.declared.plan.CheckRow.{CheckRow}
-use Rattle.np_model.specs.declared.plan.CheckRow.TheVariants as check
-use Rattle.np_model.specs.declared.plan.Place.{Place}
-use Rattle.np_model.specs.declared.plan.Place.TheVariants as place
-use Rattle.np_model.specs.declared.plan.Overflow.{Overflow}
-use Rattle.np_model.specs.declared.plan.Entry.{Entry}
-use Rattle.np_model.specs.Fits.{PlaceFits}
-use Rattle.np_model.specs.Fits as fits
-use Rattle.net_csv.specs.Fields.{is_number}
-use Rattle.net_csv.proofs.FieldFacts.{number-is}
+use Rattle.np_model.specs.declared.log.Mark.{Mark}
+use Rattle.np_model.specs.declared.log.Mark.TheVariants as mark
+use Rattle.np_model.specs.declared.rows.Row.{Row}
+use Rattle.np_model.specs.declared.rows.Row.TheVariants as row
+use Rattle.np_model.specs.declared.rows.CheckRow.{CheckRow}
+use Rattle.np_model.specs.declared.rows.CheckRow.TheVariants as check
+use Rattle.np_model.specs.declared.rows.Place.{Place}
+use Rattle.np_model.specs.declared.rows.Place.TheVariants as place
+use Rattle.np_model.specs.declared.rows.Overflow.{Overflow}
+use Rattle.np_model.specs.declared.log.Entry.{Entry}
+use Rattle.np_model.specs.Scheme.Fits.{IsShortNumber, PlaceFits}
+use Rattle.np_frac.proofs.TextTests.{number-is}
 use Rattle.certificates.specs.Words.{verdict_of, mark_of, op_of, row_of, check_row_of}
-use Rattle.certificates.specs.Fields.{fraction_in, whole_in, place_in_row, overflow_in, entry_in}
-use Rattle.certificates.specs.Words.{verdict_word, mark_word, op_word, row_word, check_row_word}
+use Rattle.np_model.specs.Scheme.Verdicts.{verdict_word, mark_word, row_word, check_row_word}
+use Rattle.np_frac.specs.Words.{op_word}
+use Rattle.certificates.specs.Fields.{fraction_in, place_in_row, overflow_in, entry_in}
+use Rattle.np_records.specs.Rows.{whole_in}
 use Rattle.certificates.specs.Writing.{place_word, past_row, pivot_row}
-use Rattle.certificates.proofs.FieldFacts.{fraction-answer, whole-some}
+use Rattle.certificates.proofs.FieldFacts.{fraction-answer}
+use Rattle.np_records.proofs.NumberFacts.{whole-some}
 
 -- ---- numbers
 
@@ -107,43 +108,22 @@ no-turn n h = elim (cases_Bool (bytes_eq (decimal n) (codes "turn"))) [
 
 pub place-back : (r : Row) (p : Place) → PlaceFits r p → place_in_row r (place_word p) ≡ Some p
 place-back row.A1 (place.Node v) h = rw (whole-back v h) refl
-place-back row.A1 (place.Arc a) h = absurd h
-place-back row.A1 place.Turn h = absurd h
-place-back row.A1 (place.Check c) h = absurd h
 place-back row.A2 (place.Arc a) h = rw (whole-back a h) refl
-place-back row.A2 (place.Node v) h = absurd h
-place-back row.A2 place.Turn h = absurd h
-place-back row.A2 (place.Check c) h = absurd h
 place-back row.A3 (place.Arc a) h = rw (no-turn a h, whole-back a h) refl
 place-back row.A3 place.Turn h = refl
-place-back row.A3 (place.Node v) h = absurd h
-place-back row.A3 (place.Check c) h = absurd h
 place-back row.A4 (place.Arc a) h = rw (whole-back a h) refl
-place-back row.A4 (place.Node v) h = absurd h
-place-back row.A4 place.Turn h = absurd h
-place-back row.A4 (place.Check c) h = absurd h
 place-back row.A5 (place.Arc a) h = rw (whole-back a h) refl
-place-back row.A5 (place.Node v) h = absurd h
-place-back row.A5 place.Turn h = absurd h
-place-back row.A5 (place.Check c) h = absurd h
 place-back row.A6 (place.Arc a) h = rw (whole-back a h) refl
-place-back row.A6 (place.Node v) h = absurd h
-place-back row.A6 place.Turn h = absurd h
-place-back row.A6 (place.Check c) h = absurd h
 place-back row.A7 (place.Arc a) h = rw (no-turn a h, whole-back a h) refl
 place-back row.A7 place.Turn h = refl
-place-back row.A7 (place.Node v) h = absurd h
-place-back row.A7 (place.Check c) h = absurd h
 place-back row.A8 (place.Check c) h = rw (check_row-back c) refl
-place-back row.A8 (place.Node v) h = absurd h
-place-back row.A8 (place.Arc a) h = absurd h
-place-back row.A8 place.Turn h = absurd h
+place-back r p h = absurd h
 
 -- ---- records
 
-pub overflow-back : (passed : Overflow) → PlaceFits passed.row passed.place → Fits passed.past.left × Fits passed.past.right → overflow_in (past_row passed) ≡ Some passed
-overflow-back passed place operands =
-    rw (row-back passed.row, place-back passed.row passed.place place, op-back passed.past.op, fraction-back passed.past.left operands.0, fraction-back passed.past.right operands.1) refl
+pub overflow-back : (overflow : Overflow) → PlaceFits overflow.row overflow.place → Fits overflow.past.left × Fits overflow.past.right → overflow_in (past_row overflow) ≡ Some overflow
+overflow-back overflow place operands =
+    rw (row-back overflow.row, place-back overflow.row overflow.place place, op-back overflow.past.op, fraction-back overflow.past.left operands.0, fraction-back overflow.past.right operands.1) refl
 
-pub entry-back : (k : ℕ) (entry : Entry) → fits.IsNumber entry.enter × fits.IsNumber entry.leave → entry.leave_at ≢ mark.Basic → entry_in (pivot_row (k, entry)) ≡ Some entry
+pub entry-back : (k : ℕ) (entry : Entry) → IsShortNumber entry.enter × IsShortNumber entry.leave → entry.leave_at ≢ mark.Basic → entry_in (pivot_row (k, entry)) ≡ Some entry
 entry-back k entry numbers at_bound = rw (whole-back entry.enter numbers.0, whole-back entry.leave numbers.1, mark-back entry.leave_at at_bound) refl

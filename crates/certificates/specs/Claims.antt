@@ -1,18 +1,19 @@
 -- What the records of a plan text claim: each record gives a part of the plan.
-use Rattle.std.specs.Prelude.{ℕ, ◌+◌, ◌-◌, ◌*◌, ◌==◌, ◌&&◌, Bool, false, Option, None, List, [], ◌∷◌, length, map, codes, if◌then◌else◌}
+use Rattle.std.specs.Prelude.{ℕ, ◌+◌, ◌-◌, ◌*◌, ◌==◌, ◌&&◌, Bool, false, Option, None, List, length, map, codes, if◌then◌else◌}
 use Rattle.std.specs.List.{filter_map, range_with_len}
-use Rattle.std.specs.Option.{option_or, option_map_or}
+use Rattle.std.specs.Option.{option_map_or}
 use Rattle.np_frac.specs.Ratio.{Ratio}
 use Rattle.np_frac.specs.Text.{number}
 use Rattle.np_records.specs.Names.{place_of}
 use Rattle.np_records.specs.Records.{field_of}
 use Rattle.np_model.specs.declared.scheme.Scheme.{Scheme}
-use Rattle.np_model.specs.declared.scheme.Flow.{Flow}
-use Rattle.np_model.specs.declared.plan.Entry.{Entry}
-use Rattle.np_model.specs.declared.plan.Overflow.{Overflow}
-use Rattle.np_model.specs.Valid.{periods_of}
-use Rattle.net_csv.specs.Network.{is_kind}
-use Rattle.certificates.specs.Fields.{fraction_in, whole_in, overflow_in, entry_in}
+use Rattle.np_model.specs.declared.log.Entry.{Entry}
+use Rattle.np_model.specs.declared.rows.Overflow.{Overflow}
+use Rattle.np_model.specs.Scheme.Kinds.{periods_of}
+use Rattle.np_records.specs.Rows.{is_kind, whole_in}
+use Rattle.certificates.specs.Fields.{fraction_in, overflow_in, entry_in}
+use Rattle.np_records.specs.Faults.{found}
+use Rattle.np_model.specs.Scheme.Names.{flow_names}
 
 -- ---- what a plan may speak of
 
@@ -23,9 +24,7 @@ pub record Outline : Type 0 where
   pub flows : List (List ℕ)
   pub last : List ℕ
 
-abbrev pub flow_names : List Flow → List (List ℕ)
-flow_names flows = map (λ flow. flow.name) flows
-
+-- that of a scheme
 abbrev pub outline_of : Scheme → Outline
 outline_of scheme = record {
   periods = scheme.periods;
@@ -36,13 +35,9 @@ outline_of scheme = record {
 
 -- ---- what one record gives
 
+-- what a record of this kind gives
 abbrev pub of_kind : {X : Type 0} → List ℕ → (List (List ℕ) → Option X) → List (List ℕ) → Option X
 of_kind word reads r = if is_kind r word then reads r else None
-
--- what the first record that gives something gives
-abbrev pub found : {X Y : Type 0} → (X → Option Y) → List X → Option Y
-found f [] = None
-found f (x ∷ xs) = option_or (f x) (found f xs)
 
 -- the place of a name in a period: of n names, name i in period P stands at (P - 1) * n + i
 abbrev pub place_with : ℕ → ℕ → ℕ → ℕ
@@ -63,11 +58,12 @@ amount_for word names place r = if is_kind r word && names_place names place r t
 abbrev pub amounts_given : List ℕ → List (List ℕ) → ℕ → List (List (List ℕ)) → List (Option Ratio)
 amounts_given word names periods rows = map (λ place. found (amount_for word names place) rows) (range_with_len 0 (periods * length names))
 
+-- each part once, an amount or none for each name in each period, and the pivots in order
 pub record Claims : Type 0 where
   pub cost : Option Ratio
   pub gap : Option Ratio
   pub arc : Option ℕ
-  pub passed : Option Overflow
+  pub overflow : Option Overflow
   pub flows : List (Option Ratio)
   pub prices : List (Option Ratio)
   pub ray : List (Option Ratio)
@@ -79,7 +75,7 @@ claims_of o rows = record {
   cost = found (of_kind (codes "cost") (λ r. fraction_in (field_of r 1))) rows;
   gap = found (of_kind (codes "gap") (λ r. fraction_in (field_of r 1))) rows;
   arc = found (of_kind (codes "arc") (λ r. whole_in (field_of r 1))) rows;
-  passed = found (of_kind (codes "past") overflow_in) rows;
+  overflow = found (of_kind (codes "past") overflow_in) rows;
   flows = amounts_given (codes "flow") o.flows o.periods rows;
   prices = amounts_given (codes "price") o.nodes o.periods rows;
   ray = amounts_given (codes "ray") o.flows o.periods rows;

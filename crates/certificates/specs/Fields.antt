@@ -1,60 +1,42 @@
 -- The fields of plan texts: what each one stands for, and what is wrong with it.
-use Rattle.std.specs.Prelude.{ℕ, ◌==◌, ◌&&◌, ◌^◌, nat_lt, Bool, true, Option, Some, None, is_some, option_map, List, [], ◌∷◌, length, codes, if◌then◌else◌}
+use Rattle.std.specs.Prelude.{ℕ, ◌==◌, Option, Some, None, is_some, option_map, List, length, codes, if◌then◌else◌}
 use Rattle.std.specs.Option.{option_and_then}
 use Rattle.std.specs.Str.{bytes_eq}
 use Rattle.np_frac.specs.Ratio.{Ratio}
-use Rattle.np_frac.specs.Text.{stroke, number, unsigned_part, before_mark, from_mark, fraction_of}
+use Rattle.np_frac.specs.Text.{is_fraction_text, fraction_of}
 use Rattle.np_frac.specs.declared.frac.Past.{Past}
 use Rattle.np_records.specs.Names.{place_of}
 use Rattle.np_records.specs.Records.{field_of}
-use Rattle.np_model.specs.declared.plan.Entry.{Entry}
-use Rattle.np_model.specs.declared.plan.Row.{Row}
-use Rattle.np_model.specs.declared.plan.Row.TheVariants.{A1, A2, A3, A4, A5, A6, A7, A8}
-use Rattle.np_model.specs.declared.plan.Place.{Place}
-use Rattle.np_model.specs.declared.plan.Place.TheVariants.{Node, Arc, Turn, Check}
-use Rattle.np_model.specs.declared.plan.Overflow.{Overflow}
-use Rattle.net_csv.specs.Fields.{is_number, is_period}
+use Rattle.np_model.specs.declared.log.Entry.{Entry}
+use Rattle.np_model.specs.declared.rows.Row.{Row}
+use Rattle.np_model.specs.declared.rows.Row.TheVariants.{A1, A2, A3, A4, A5, A6, A7, A8}
+use Rattle.np_model.specs.declared.rows.Place.{Place}
+use Rattle.np_model.specs.declared.rows.Place.TheVariants.{Node, Arc, Turn, Check}
+use Rattle.np_model.specs.declared.rows.Overflow.{Overflow}
+use Rattle.np_records.specs.Rows.{is_period, whole_in}
 use Rattle.np_records.specs.Faults.{unless}
-use Rattle.certificates.specs.declared.refused.Code.{Code}
-use Rattle.certificates.specs.declared.refused.Code.TheVariants as code
+use Rattle.certificates.specs.declared.refused.PlanCode.{PlanCode}
+use Rattle.certificates.specs.declared.refused.PlanCode.TheVariants as code
 use Rattle.certificates.specs.Words.{mark_of, op_of, row_of, check_row_of}
 
--- ---- numbers
-
--- 1 to 39 digits, which write a number of at most 2 ^ 127 - 1
-abbrev pub is_part : List ℕ → Bool
-is_part ds = is_number 39 ds && nat_lt (number ds) (2 ^ 127)
-
--- what may stand behind the upper part of a fraction: nothing, or a stroke and a lower part that is not 0
-abbrev pub is_fraction_end : List ℕ → Bool
-is_fraction_end [] = true
-is_fraction_end (mark ∷ ds) = (mark == stroke) && is_part ds && nat_lt 0 (number ds)
-
--- an optional `-`, an upper part and such an end
-unfoldable pub is_fraction : List ℕ → Bool
-is_fraction bs = is_part (before_mark (unsigned_part bs)) && is_fraction_end (from_mark (unsigned_part bs))
-
+-- the fraction that a field writes
 abbrev pub fraction_in : List ℕ → Option Ratio
-fraction_in bs = if is_fraction bs then Some (fraction_of bs) else None
-
--- a whole number in 1 to 9 digits
-abbrev pub whole_in : List ℕ → Option ℕ
-whole_in bs = if is_number 9 bs then Some (number bs) else None
+fraction_in bs = if is_fraction_text bs then Some (fraction_of bs) else None
 
 -- ---- faults
 
-abbrev pub fields_fault : ℕ → List (List ℕ) → Option Code
+abbrev pub fields_fault : ℕ → List (List ℕ) → Option PlanCode
 fields_fault count r = unless (length r == count) code.FieldCount
 
 -- a name that is used, where these are defined
-abbrev pub used_fault : List (List ℕ) → List ℕ → Option Code
+abbrev pub used_fault : List (List ℕ) → List ℕ → Option PlanCode
 used_fault names name = unless (is_some (place_of names name)) code.NoSuchName
 
-abbrev pub period_fault : ℕ → List ℕ → Option Code
+abbrev pub period_fault : ℕ → List ℕ → Option PlanCode
 period_fault last bs = unless (is_period last bs) code.BadPeriod
 
 -- a field is wrong where it gives nothing
-abbrev pub given_fault : {X : Type 0} → Option X → Option Code
+abbrev pub given_fault : {X : Type 0} → Option X → Option PlanCode
 given_fault given = unless (is_some given) code.BadNumber
 
 -- ---- what fields give together
@@ -76,7 +58,7 @@ past_in r =
     option_and_then (λ op. option_and_then (λ left. option_map (λ right. record { op = op; left = left; right = right })
     (fraction_in (field_of r 5))) (fraction_in (field_of r 4))) (op_of (field_of r 3))
 
--- the operation that passed, with its row and its place
+-- the operation that overflowed, with its row and its place
 abbrev pub overflow_in : List (List ℕ) → Option Overflow
 overflow_in r =
     option_and_then (λ row. option_and_then (λ place. option_map (λ past. record { row = row; place = place; past = past })

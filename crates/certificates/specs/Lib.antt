@@ -5,4 +5,4 @@ pub mod Faults
 pub mod Grammar
 pub mod Reading
 pub mod Writing
-pub mod ReadBack
+pub mod Steps

@@ -1,28 +1,28 @@
 -- The records of the text of a plan, and what of the plan they tell.
-use Rattle.std.specs.Prelude.{ℕ, ◌+◌, ◌/◌, ◌%◌, Bool, None, option_map, List, [], ◌∷◌, ◌++◌, length, map, codes, decimal, IfSome, if◌then◌else◌}
+use Rattle.std.specs.Prelude.{ℕ, ◌+◌, ◌/◌, ◌%◌, ◌||◌, Bool, None, option_map, List, [], ◌∷◌, ◌++◌, length, map, codes, decimal, IfSome, if◌then◌else◌, Option}
 use Rattle.std.specs.List.{All, zip, enumerate_from}
 use Rattle.std.specs.Option.{option_to_list}
 use Rattle.np_frac.specs.Ratio.{Ratio}
-use Rattle.np_frac.specs.Lowest.{Fits}
+use Rattle.np_frac.specs.Fits.{Fits}
 use Rattle.np_frac.specs.Text.{printed}
 use Rattle.np_model.specs.declared.scheme.Scheme.{Scheme}
 use Rattle.np_model.specs.declared.plan.Verdict.{Verdict}
-use Rattle.np_model.specs.declared.plan.Verdict.TheVariants as verdict
-use Rattle.np_model.specs.declared.plan.Place.{Place}
-use Rattle.np_model.specs.declared.plan.Place.TheVariants as place
-use Rattle.np_model.specs.declared.plan.Overflow.{Overflow}
-use Rattle.np_model.specs.declared.plan.Entry.{Entry}
-use Rattle.np_model.specs.declared.plan.Log.{Log}
+use Rattle.np_model.specs.declared.plan.Parts.{Parts}
+use Rattle.np_model.specs.declared.rows.Place.{Place}
+use Rattle.np_model.specs.declared.rows.Place.TheVariants as place
+use Rattle.np_model.specs.declared.rows.Overflow.{Overflow}
+use Rattle.np_model.specs.declared.log.Entry.{Entry}
+use Rattle.np_model.specs.declared.log.Log.{Log}
 use Rattle.np_model.specs.declared.plan.Plan.{Plan}
-use Rattle.np_model.specs.Stages.{Stage}
-use Rattle.np_model.specs.Schemes.{staged}
-use Rattle.net_csv.specs.Writing.{name_at}
-use Rattle.certificates.specs.Words.{verdict_word, mark_word, op_word, row_word, check_row_word}
-use Rattle.certificates.specs.Claims.{flow_names}
+use Rattle.np_model.specs.Scheme.Segments.{Stage}
+use Rattle.np_model.specs.Scheme.Plans.{staged}
+use Rattle.np_model.specs.Scheme.Names.{name_at, flow_names}
+use Rattle.np_model.specs.Scheme.Verdicts.{parts_of, verdict_word, mark_word, row_word, check_row_word}
+use Rattle.np_frac.specs.Words.{op_word}
 
 -- ---- records
 
--- where an operation passed: at a node, at an arc, at the turn to the second stage, or at a row of the checker
+-- where an operation overflowed: at a node, at an arc, at the turn to the second stage, or at a row of the checker
 abbrev pub place_word : Place → List ℕ
 place_word (place.Node v) = decimal v
 place_word (place.Arc a) = decimal a
@@ -41,8 +41,8 @@ abbrev pub number_row : List ℕ → ℕ → List (List ℕ)
 number_row word number = word ∷ decimal number ∷ []
 
 abbrev pub past_row : Overflow → List (List ℕ)
-past_row passed =
-    codes "past" ∷ row_word passed.row ∷ place_word passed.place ∷ op_word passed.past.op ∷ printed passed.past.left ∷ printed passed.past.right ∷ []
+past_row overflow =
+    codes "past" ∷ row_word overflow.row ∷ place_word overflow.place ∷ op_word overflow.past.op ∷ printed overflow.past.left ∷ printed overflow.past.right ∷ []
 
 -- the amount of a staged arc
 abbrev pub staged_row : List ℕ → List (List ℕ) → Stage × Ratio → List (List ℕ)
@@ -71,26 +71,36 @@ log_rows log =
 
 -- ---- the parts that a verdict prints, in this order
 
--- its cost, its gap, the arc or the operation that passed
-abbrev pub claim_rows : Verdict → Plan → List (List (List ℕ))
-claim_rows verdict.Optimal plan = option_to_list (option_map (amount_row (codes "cost")) plan.amount)
-claim_rows verdict.Infeasible plan = option_to_list (option_map (amount_row (codes "gap")) plan.amount)
-claim_rows verdict.Unbounded plan = []
-claim_rows verdict.Budget plan = option_to_list (option_map (number_row (codes "arc")) plan.arc)
-claim_rows verdict.Overflow plan = option_to_list (option_map past_row plan.overflow)
+-- a part, where it is printed
+abbrev pub part_if : {X : Type 0} → Bool → Option X → Option X
+part_if printed part = if printed then part else None
+
+abbrev pub list_if : {X : Type 0} → Bool → List X → List X
+list_if printed items = if printed then items else []
+
+-- the record of a part, where it is printed
+abbrev pub part_rows : {X : Type 0} → (X → List (List ℕ)) → Bool → Option X → List (List (List ℕ))
+part_rows row printed part = option_to_list (option_map row (part_if printed part))
+
+-- its cost, its gap, the arc or the operation that overflowed
+abbrev pub claim_rows : Parts → Plan → List (List (List ℕ))
+claim_rows parts plan =
+    part_rows (amount_row (codes "cost")) parts.cost plan.amount
+    ++ part_rows (amount_row (codes "gap")) parts.gap plan.amount
+    ++ part_rows (number_row (codes "arc")) parts.arc plan.arc
+    ++ part_rows past_row parts.overflow plan.overflow
 
 -- its flows, its prices and its ray
-abbrev pub shown_rows : Verdict → Scheme → Plan → List (List (List ℕ))
-shown_rows verdict.Optimal scheme plan = staged_rows (codes "flow") scheme plan.flows ++ price_rows scheme plan.prices
-shown_rows verdict.Infeasible scheme plan = price_rows scheme plan.prices
-shown_rows verdict.Unbounded scheme plan = staged_rows (codes "flow") scheme plan.flows ++ staged_rows (codes "ray") scheme plan.ray
-shown_rows verdict.Budget scheme plan = []
-shown_rows verdict.Overflow scheme plan = []
+abbrev pub shown_rows : Parts → Scheme → Plan → List (List (List ℕ))
+shown_rows parts scheme plan =
+    list_if parts.flows (staged_rows (codes "flow") scheme plan.flows)
+    ++ list_if parts.prices (price_rows scheme plan.prices)
+    ++ list_if parts.ray (staged_rows (codes "ray") scheme plan.ray)
 
 -- the records between the head and `end`; the log stands there where it is asked for
 abbrev pub inner_rows : Scheme → Plan → Bool → List (List (List ℕ))
 inner_rows scheme plan log =
-    claim_rows plan.verdict plan ++ shown_rows plan.verdict scheme plan ++ (if log then log_rows plan.log else [])
+    claim_rows (parts_of plan.verdict) plan ++ shown_rows (parts_of plan.verdict) scheme plan ++ list_if log (log_rows plan.log)
 
 -- all records of the text
 abbrev pub plan_rows : Scheme → Plan → Bool → List (List (List ℕ))
@@ -98,19 +108,21 @@ plan_rows scheme plan log = head_rows plan.verdict ++ inner_rows scheme plan log
 
 -- ---- what the text tells of a plan
 
--- the parts that its verdict prints
-abbrev pub printed_parts : Verdict → Plan → Plan
-printed_parts verdict.Optimal plan = record plan { ray = []; arc = None; overflow = None }
-printed_parts verdict.Infeasible plan = record plan { flows = []; ray = []; arc = None; overflow = None }
-printed_parts verdict.Unbounded plan = record plan { amount = None; prices = []; arc = None; overflow = None }
-printed_parts verdict.Budget plan = record plan { amount = None; flows = []; prices = []; ray = []; overflow = None }
-printed_parts verdict.Overflow plan = record plan { amount = None; flows = []; prices = []; ray = []; arc = None }
+-- these parts of it, and the log where it was asked for
+abbrev pub told_parts : Parts → Plan → Bool → Plan
+told_parts parts plan log = record plan {
+  amount = part_if (parts.cost || parts.gap) plan.amount;
+  flows = list_if parts.flows plan.flows;
+  prices = list_if parts.prices plan.prices;
+  ray = list_if parts.ray plan.ray;
+  arc = part_if parts.arc plan.arc;
+  overflow = part_if parts.overflow plan.overflow;
+  log = record { turned = part_if log plan.log.turned; entries = list_if log plan.log.entries };
+}
 
--- these, and the log where it was asked for
+-- those that its verdict prints
 abbrev pub told : Plan → Bool → Plan
-told plan log =
-    if log then printed_parts plan.verdict plan
-    else record (printed_parts plan.verdict plan) { log = record { turned = None; entries = [] } }
+told plan log = told_parts (parts_of plan.verdict) plan log
 
 -- the amounts and operands of a plan fit fractions
 pub record HasFractions (plan : Plan) : Type 0 where
@@ -118,4 +130,4 @@ pub record HasFractions (plan : Plan) : Type 0 where
   pub flows : All Fits plan.flows
   pub prices : All Fits plan.prices
   pub ray : All Fits plan.ray
-  pub operands : IfSome plan.overflow (λ passed. Fits passed.past.left × Fits passed.past.right)
+  pub operands : IfSome plan.overflow (λ overflow. Fits overflow.past.left × Fits overflow.past.right)

@@ -4,24 +4,17 @@ ghost use Rattle.std.specs.Prelude.{◌≡◌, ◌<◌, ◌≤◌, IfOk, not, le
 ghost use Rattle.np_frac.specs.Text.{number};
 ghost use Rattle.np_records.specs.Records.{field_of};
 ghost use Rattle.csv.specs.Records.{fields_of};
-ghost use Rattle.net_csv.specs.Fields.{place_in};
-ghost use Rattle.net_csv.specs.Network.{is_kind};
-ghost use Rattle.certificates.specs.declared.refused.Code.TheVariants as code;
+ghost use Rattle.np_records.specs.Names.{place_in};
+ghost use Rattle.np_records.specs.Rows.{is_kind, whole_in};
+ghost use Rattle.certificates.specs.declared.refused.PlanCode.TheVariants as code;
 ghost use Rattle.np_records.specs.Faults.{Reads, unless};
-ghost use Rattle.certificates.specs.Fields.{fraction_in, whole_in, fields_fault, used_fault, period_fault, place_in_row, past_in, overflow_in, entry_in};
+ghost use Rattle.certificates.specs.Fields.{fraction_in, fields_fault, used_fault, period_fault, place_in_row, past_in, overflow_in, entry_in};
 
-use crate::refused::Code;
+use crate::refused::PlanCode;
 use crate::words::{check_row_of, mark_of, op_of, row_of};
-use np_frac::{Frac, Past, read_frac, read_number};
+use np_frac::{Frac, Past, read_frac};
 use np_model::{Entry, Overflow, Place, Row};
-use np_records::{ByteRecord, NameTable, field};
-
-/// Whether the record has this word as its first field.
-pub(crate) fn is_kind(row: &ByteRecord, word: &[u8]) -> bool
-    ensures { result ≡ is_kind (fields_of row.now) word.now }
-{
-    field(row, 0) == word
-}
+use np_records::{ByteRecord, NameTable, field, period, whole};
 
 /// A fraction.
 pub(crate) fn fraction(bytes: &[u8]) -> Option<Frac>
@@ -30,64 +23,52 @@ pub(crate) fn fraction(bytes: &[u8]) -> Option<Frac>
     read_frac(bytes)
 }
 
-/// A whole number in 1 to 9 digits.
-pub(crate) fn whole(bytes: &[u8]) -> Option<u32>
-    ensures { result ≡ whole_in bytes.now }
-{
-    match read_number(bytes, 9) {
-        Some(number) => Some(number as u32),
-        None => None,
-    }
-}
-
 /// Looks whether the record has this many fields.
-pub(crate) fn fields(row: &ByteRecord, count: usize) -> Result<(), Code>
+pub(crate) fn fields(row: &ByteRecord, count: usize) -> Result<(), PlanCode>
     ensures { Reads result (fields_fault count (fields_of row.now)) tt }
 {
     if row.len() != count {
-        return Err(Code::FieldCount);
+        return Err(PlanCode::FieldCount);
     }
     Ok(())
 }
 
 /// The number of a name that is used.
-pub(crate) fn used_name(names: &NameTable, name: &[u8]) -> Result<usize, Code>
+pub(crate) fn used_name(names: &NameTable, name: &[u8]) -> Result<usize, PlanCode>
     ensures value { Reads result (used_fault names.now name.now) (place_in names.now name.now) }
     ensures within { IfOk result (λ place. place < length names.now) }
 {
-    names.index_of(name).ok_or(Code::NoSuchName)
+    names.index_of(name).ok_or(PlanCode::NoSuchName)
 }
 
 /// A period from 1 to the last one.
-pub(crate) fn period(last: u32, bytes: &[u8]) -> Result<u32, Code>
+pub(crate) fn period_up_to(last: u32, bytes: &[u8]) -> Result<u32, PlanCode>
     ensures value { Reads result (period_fault last bytes.now) (number bytes.now) }
     ensures some { IfOk result (λ period. 1 ≤ period) }
     ensures within { IfOk result (λ period. period ≤ last) }
 {
-    match read_number(bytes, 9) {
-        None => Err(Code::BadPeriod),
-        Some(period) if period < 1 => Err(Code::BadPeriod),
-        Some(period) if u64::from(last) < period => Err(Code::BadPeriod),
-        Some(period) => Ok(period as u32),
+    match period(last, bytes) {
+        Some(period) => Ok(period),
+        None => Err(PlanCode::BadPeriod),
     }
 }
 
 /// A field is wrong that gives nothing.
-pub(crate) fn is_given(given: bool) -> Result<(), Code>
+pub(crate) fn is_given(given: bool) -> Result<(), PlanCode>
     ensures { Reads result (unless given code.BadNumber) tt }
 {
     if given {
         return Ok(());
     }
-    Err(Code::BadNumber)
+    Err(PlanCode::BadNumber)
 }
 
 /// What was given before is not to be given again.
-pub(crate) fn is_new(before: bool) -> Result<(), Code>
+pub(crate) fn is_new(before: bool) -> Result<(), PlanCode>
     ensures { Reads result (unless (not before) code.Repeated) tt }
 {
     if before {
-        return Err(Code::Repeated);
+        return Err(PlanCode::Repeated);
     }
     Ok(())
 }
@@ -124,7 +105,7 @@ fn past(row: &ByteRecord) -> Option<Past>
     Some(Past { op, left, right })
 }
 
-/// The operation that passed, with its row and its place.
+/// The operation that overflowed, with its row and its place.
 pub(crate) fn overflow(row: &ByteRecord) -> Option<Overflow>
     ensures { result ≡ overflow_in (fields_of row.now) }
 {

@@ -3,11 +3,12 @@
 ghost use Rattle.std.specs.Prelude.{◌≡◌, ◌<◌, ◌^◌, IfOk, map, length};
 ghost use Rattle.std.specs.List.{IsDistinct};
 ghost use Rattle.std.specs.Str.{bytes_eq};
-ghost use Rattle.np_model.specs.Valid.{periods_of};
-ghost use Rattle.certificates.specs.Claims.{flow_names, outline_of};
+ghost use Rattle.np_model.specs.Scheme.Kinds.{periods_of};
+ghost use Rattle.np_model.specs.Scheme.Names.{flow_names};
+ghost use Rattle.certificates.specs.Claims.{outline_of};
 
 use np_frac::Memory;
-use np_model::{Flow, FlowKind, Name, Scheme};
+use np_model::{Flow, Name, Scheme};
 use np_records::NameTable;
 use std::alloc::Global;
 use std::marker::Model;
@@ -32,17 +33,6 @@ impl Model for Index {
       flows = s.flows;
       last = s.last.items;
     } };
-}
-
-/// In how many of so many periods a flow has an arc.
-pub(crate) fn periods_of(periods: u32, kind: &FlowKind) -> u32
-    requires { 0 < periods }
-    ensures { result ≡ periods_of periods kind.now }
-{
-    match kind {
-        FlowKind::Hold { .. } => periods - 1,
-        _ => periods,
-    }
 }
 
 // The table of names of which no two are the same.
@@ -71,12 +61,11 @@ fn table_of_flows(alloc: Global, flows: &[Flow]) -> Result<NameTable, Memory>
 
 // The last period of each flow.
 fn last_periods(alloc: Global, periods: u32, flows: &[Flow]) -> Result<Vec<u32>, Memory>
-    requires { 0 < periods }
     ensures { IfOk result (λ last. last.items ≡ map (λ flow. periods_of periods flow.kind) flows.now) }
 {
     let mut last = Vec::new(alloc);
     for flow in flows {
-        last.push(periods_of(periods, &flow.kind))?;
+        last.push(flow.kind.periods(periods))?;
     }
     Ok(last)
 }

@@ -1,22 +1,27 @@
 //! Laws of plan texts, each as the clause of a function that does nothing.
 
-ghost use Rattle.std.specs.Prelude.{◌≡◌, ◌++◌, ℕ, Bool, List};
+ghost use Rattle.std.specs.Prelude.{◌≡◌, ◌≢◌, ℕ, Bool, List, [], None};
+ghost use Rattle.std.specs.List.{All};
 ghost use Rattle.np_model.specs.declared.plan.Plan.{Plan};
 ghost use Rattle.np_model.specs.declared.scheme.Scheme.{Scheme};
-ghost use Rattle.np_model.specs.Fits.{PlanFits};
+ghost use Rattle.np_model.specs.Scheme.Fits.{PlanFits};
 ghost use Rattle.np_records.specs.Records.{records_of};
 ghost use Rattle.np_records.specs.Texts.{records_text};
-ghost use Rattle.net_csv.specs.Writing.{rows_of};
-ghost use Rattle.certificates.specs.Grammar.{IsPlanOf};
-ghost use Rattle.certificates.specs.ReadBack.{IsReadAs, IsReadBehind};
+ghost use Rattle.certificates.specs.Claims.{outline_of};
+ghost use Rattle.certificates.specs.Grammar.{IsPlanOf, plan_fault};
+ghost use Rattle.certificates.specs.Reading.{StandsForAPlan, IsReadAs};
 ghost use Rattle.certificates.specs.Writing.{plan_rows, told, HasFractions};
-
-use net_csv::laws::written_schemes_are_read;
 
 /// For a scheme, records are those of at most one plan.
 pub fn one_plan()
     ensures { (scheme : Scheme) (rows : List (List (List ℕ))) (first second : Plan)
         → IsPlanOf scheme rows first → IsPlanOf scheme rows second → first ≡ second }
+{}
+
+/// Records without a fault, behind whatever others, are those of a plan, and it fits the scheme.
+pub fn some_plan()
+    ensures { (skip : ℕ) (scheme : Scheme) (rows : List (List (List ℕ)))
+        → plan_fault skip (outline_of scheme) rows ≡ None → StandsForAPlan scheme rows }
 {}
 
 /// The records that are written for a plan have no fault, and they are those of what they tell of it.
@@ -28,9 +33,7 @@ pub fn written_plans_are_read()
     ensures bytes { (scheme : Scheme) (plan : Plan) (log : Bool) → PlanFits scheme plan → HasFractions (told plan log)
         → records_of (records_text (plan_rows scheme plan log)) ≡ plan_rows scheme plan log }
 
-    // So they are behind the bytes of the records of the scheme.
-    ensures behind { (scheme : Scheme) (plan : Plan) (log : Bool) → PlanFits scheme plan → HasFractions (told plan log)
-        → IsReadBehind scheme (records_of (records_text (rows_of scheme ++ plan_rows scheme plan log))) (told plan log) }
-{
-    written_schemes_are_read();
-}
+    // Each of them has a field, as a text needs that may stand behind others.
+    ensures full { (scheme : Scheme) (plan : Plan) (log : Bool) → PlanFits scheme plan → HasFractions (told plan log)
+        → All (λ fields. fields ≢ []) (plan_rows scheme plan log) }
+{}

@@ -1,13 +1,13 @@
 //! Why a plan text is refused.
 
 ghost use Rattle.std.specs.Prelude.{◌≡◌};
-ghost use Rattle.certificates.specs.Words.{code_word};
+ghost use Rattle.certificates.specs.Words.{plan_code_word};
 
 use np_frac::Memory;
 
 /// What is wrong with a record.
 #[derive(Clone, Copy, Debug, PartialEq, Eq)]
-pub enum Code {
+pub enum PlanCode {
     /// One of the first two records is not the one that has to stand there.
     Header,
     /// The first field is no word of a record.
@@ -30,44 +30,44 @@ pub enum Code {
     AfterEnd,
 }
 
-impl Code {
+impl PlanCode {
     /// The word of a fault, as it is printed: the name of its variant.
-    #[tactic(auto, unfolding(crate::specs::Words::code_word))]
+    #[tactic(auto, unfolding(crate::specs::Words::plan_code_word))]
     pub fn word(self) -> &'static [u8]
-        ensures { result.now ≡ code_word self }
+        ensures { result.now ≡ plan_code_word self }
     {
         match self {
-            Code::Header => b"Header",
-            Code::Unknown => b"Unknown",
-            Code::FieldCount => b"FieldCount",
-            Code::NoSuchName => b"NoSuchName",
-            Code::BadPeriod => b"BadPeriod",
-            Code::BadNumber => b"BadNumber",
-            Code::Repeated => b"Repeated",
-            Code::Missing => b"Missing",
-            Code::NoEnd => b"NoEnd",
-            Code::AfterEnd => b"AfterEnd",
+            PlanCode::Header => b"Header",
+            PlanCode::Unknown => b"Unknown",
+            PlanCode::FieldCount => b"FieldCount",
+            PlanCode::NoSuchName => b"NoSuchName",
+            PlanCode::BadPeriod => b"BadPeriod",
+            PlanCode::BadNumber => b"BadNumber",
+            PlanCode::Repeated => b"Repeated",
+            PlanCode::Missing => b"Missing",
+            PlanCode::NoEnd => b"NoEnd",
+            PlanCode::AfterEnd => b"AfterEnd",
         }
     }
 }
 
 /// Why a plan text was not read.
 #[derive(Clone, Copy, Debug, PartialEq, Eq)]
-pub enum Refused {
+pub enum PlanRefused {
     /// The first fault: the number of its record in the whole input, from 1, and what is wrong there.
-    Fault { place: u32, code: Code },
+    Fault { place: u32, code: PlanCode },
     /// Memory ran out.
     Memory,
 }
 
-impl From<Memory> for Refused {
+impl From<Memory> for PlanRefused {
     ghost use Rattle.std.specs.Prelude.{◌≡◌};
-    ghost use Rattle.certificates.specs.declared.refused.Refused.TheVariants as refused;
+    ghost use Rattle.certificates.specs.declared.refused.PlanRefused.TheVariants as refused;
 
     ghost from_gives = { λ _ e. e ≡ refused.Memory };
 
-    fn from(_memory: Memory) -> Refused {
-        Refused::Memory
+    fn from(_memory: Memory) -> PlanRefused {
+        PlanRefused::Memory
     }
 }
 
@@ -75,7 +75,7 @@ impl From<Memory> for Refused {
 #[derive(Clone, Copy, Debug, PartialEq, Eq)]
 pub(crate) enum Stop {
     /// The record has this fault.
-    Fault(Code),
+    Fault(PlanCode),
     /// Memory ran out.
     Memory,
 }
@@ -91,13 +91,13 @@ impl From<Memory> for Stop {
     }
 }
 
-impl From<Code> for Stop {
+impl From<PlanCode> for Stop {
     ghost use Rattle.std.specs.Prelude.{◌≡◌};
     ghost use Rattle.certificates.specs.declared.refused.Stop.TheVariants as stop;
 
     ghost from_gives = { λ c e. e ≡ stop.Fault c };
 
-    fn from(code: Code) -> Stop {
+    fn from(code: PlanCode) -> Stop {
         Stop::Fault(code)
     }
 }

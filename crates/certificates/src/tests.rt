@@ -1,100 +1,150 @@
-ghost use Rattle.std.specs.Prelude.{IfOk};
-ghost use Rattle.np_model.specs.Fits.{PlanFits};
+ghost use Rattle.std.specs.Prelude.{◌≡◌, ◌<◌, ◌≤◌, [], ◌∷◌, IfOk};
+ghost use Rattle.np_frac.specs.Ratio.{zero_ratio, one_ratio};
+ghost use Rattle.np_model.specs.declared.arc.Upper.TheVariants.{Finite};
 
-use crate::{Refused, plan_text, read_plan};
-use net_csv::{Tail, read_scheme};
-use np_frac::{Op, Past, read_frac};
-use np_model::{CheckRow, Entry, Fracs, Mark, Overflow, Place, Plan, Row, Scheme, Verdict};
+use crate::{PlanRefused, plan_text, read_plan};
+use np_frac::{Frac, Memory, Op, Past, read_frac};
+use np_model::{
+    Bands, CheckRow, Entry, Flow, FlowKind, Flows, Fracs, Mark, Name, Names, Overflow, Place, Plan,
+    Row, Scheme, Upper, Verdict,
+};
 use std::alloc::Global;
 use std::test::Fail;
+use std::vec;
 
-// A network of eight records, which stands before each plan text. Its staged arcs are u, h and d in period 1, u and d in
-// period 2. Texts stand in tests with `|` for the end of a record.
-const NETWORK: &str =
-    "netplan,1|periods,2|node,A|node,B|arc,u,A,B,1,0,inf,0|hold,h,A,1,0,inf,0|drain,d,B,0,inf,0|end|";
+// A name of one letter.
+fn name(alloc: Global, letter: u8) -> Result<Name, Memory>
+    ensures { IfOk result (λ name. name ≡ letter ∷ []) }
+{
+    let mut items = Vec::new(alloc);
+    items.push(letter)?;
+    Ok(Name { items })
+}
+
+// A flow with such a name, from 0 to 1 in each period, where a unit costs 1.
+fn flow(alloc: Global, letter: u8, kind: FlowKind) -> Result<Flow, Memory>
+    ensures { IfOk result (λ flow. flow ≡ record { name = letter ∷ []; kind = kind; lower = zero_ratio; upper = Finite one_ratio; cost = one_ratio; bands = [] }) }
+{
+    Ok(Flow {
+        name: name(alloc, letter)?,
+        kind,
+        lower: Frac::whole(0),
+        upper: Upper::Finite(Frac::whole(1)),
+        cost: Frac::whole(1),
+        bands: Bands {
+            items: Vec::new(alloc),
+        },
+    })
+}
+
+// A network of two nodes A and B: a link u from A to B, a hold h at A, and a drain d at B. Over two periods its staged arcs
+// are u, h and d in period 1, u and d in period 2.
+fn network(alloc: Global, periods: u32) -> Result<Scheme, Memory>
+    requires some { 0 < periods }
+    requires few { periods ≤ 2 }
+{
+    let mut nodes = Vec::new(alloc);
+    nodes.push(name(alloc, b'A')?)?;
+    nodes.push(name(alloc, b'B')?)?;
+    let gain = Frac::whole(1);
+    let mut flows = Vec::new(alloc);
+    flows.push(flow(
+        alloc,
+        b'u',
+        FlowKind::Link {
+            from: 0,
+            to: 1,
+            gain,
+        },
+    )?)?;
+    flows.push(flow(alloc, b'h', FlowKind::Hold { node: 0, gain })?)?;
+    flows.push(flow(alloc, b'd', FlowKind::Drain { node: 1 })?)?;
+    Ok(Scheme {
+        periods,
+        nodes: Names { items: nodes },
+        supply: Fracs {
+            items: vec![in alloc; Frac::whole(0); periods as usize * 2]?,
+        },
+        flows: Flows { items: flows },
+    })
+}
+
+// Texts stand in tests with `|` for the end of a record.
 
 // What a row gives is the number of the first record with a fault, its word, and the records of the plan text.
-const FAULTS: &str = "9 NoEnd 
-9 Header netplan,1
-9 Header netplan-plan
-9 Header netplan-plan,1,
-9 Header netplan-plan,2|verdict,best
-10 NoEnd netplan-plan,1
-10 Header netplan-plan,1|end
-10 Header netplan-plan,1|verdict
-10 Header netplan-plan,1|verdict,best
-10 Header netplan-plan,1|verdict,optimal,1
-11 NoEnd netplan-plan,1|verdict,unbounded
-12 NoEnd netplan-plan,1|verdict,optimal|cost,0
-11 Unknown netplan-plan,1|verdict,optimal|verdict,optimal
-11 Unknown netplan-plan,1|verdict,optimal|node,A
-12 Unknown netplan-plan,1|verdict,optimal|cost,0|\"\"|end,1
-11 FieldCount netplan-plan,1|verdict,optimal|cost
-11 FieldCount netplan-plan,1|verdict,optimal|flow,w,0
-12 FieldCount netplan-plan,1|verdict,optimal|cost,0|pivot,2,x
-12 FieldCount netplan-plan,1|verdict,budget|cost,0|end,1|end
-11 NoSuchName netplan-plan,1|verdict,optimal|flow,A,0,x
-11 NoSuchName netplan-plan,1|verdict,optimal|price,u,1,1
-12 NoSuchName netplan-plan,1|verdict,optimal|cost,0|ray,x,9,1|end
-11 BadPeriod netplan-plan,1|verdict,optimal|flow,u,0,x
-11 BadPeriod netplan-plan,1|verdict,optimal|flow,u,3,1
-11 BadPeriod netplan-plan,1|verdict,optimal|flow,h,2,1
-11 BadPeriod netplan-plan,1|verdict,optimal|ray,h,2,1
-11 BadPeriod netplan-plan,1|verdict,optimal|price,A,*,1
-12 BadPeriod netplan-plan,1|verdict,optimal|cost,0|price,A,0000000001,1
-11 BadNumber netplan-plan,1|verdict,optimal|cost,1.5
-11 BadNumber netplan-plan,1|verdict,optimal|gap,1/0
-11 BadNumber netplan-plan,1|verdict,optimal|cost,170141183460469231731687303715884105728
-11 BadNumber netplan-plan,1|verdict,optimal|arc,-1
-11 BadNumber netplan-plan,1|verdict,optimal|arc,1000000000
-11 BadNumber netplan-plan,1|verdict,optimal|turned,1/1
-11 BadNumber netplan-plan,1|verdict,optimal|flow,u,1,inf
-11 BadNumber netplan-plan,1|verdict,optimal|past,A9,0,plus,1,1
-11 BadNumber netplan-plan,1|verdict,optimal|past,A1,turn,plus,1,1
-11 BadNumber netplan-plan,1|verdict,optimal|past,A4,turn,plus,1,1
-11 BadNumber netplan-plan,1|verdict,optimal|past,A8,0,plus,1,1
-11 BadNumber netplan-plan,1|verdict,optimal|past,A2,C0,plus,1,1
-11 BadNumber netplan-plan,1|verdict,optimal|past,A8,C7,plus,1,1
-11 BadNumber netplan-plan,1|verdict,optimal|past,A1,0,add,1,1
-11 BadNumber netplan-plan,1|verdict,optimal|past,A1,0,plus,1,x
-11 BadNumber netplan-plan,1|verdict,optimal|pivot,2,0,2,lower
-11 BadNumber netplan-plan,1|verdict,optimal|pivot,0,0,2,lower
-11 BadNumber netplan-plan,1|verdict,optimal|pivot,1,0,2,basic
-12 BadNumber netplan-plan,1|verdict,optimal|pivot,1,0,2,lower|pivot,1,0,2,lower
-12 BadNumber netplan-plan,1|verdict,optimal|pivot,1,0,2,lower|pivot,3,1,1,upper|end
-12 Repeated netplan-plan,1|verdict,optimal|flow,u,1,0|flow,u,01,1
-12 Repeated netplan-plan,1|verdict,infeasible|ray,h,1,0|ray,h,1,0
-13 Repeated netplan-plan,1|verdict,infeasible|gap,1|price,B,2,0|price,B,2,1/2|end
-12 Repeated netplan-plan,1|verdict,budget|cost,0|cost,0
-12 Repeated netplan-plan,1|verdict,budget|gap,0|gap,0
-12 Repeated netplan-plan,1|verdict,budget|arc,0|arc,0
-12 Repeated netplan-plan,1|verdict,budget|turned,0|turned,0
-12 Repeated netplan-plan,1|verdict,budget|past,A1,0,plus,1,1|past,A1,0,plus,1,1
-11 Missing netplan-plan,1|verdict,optimal|end
-12 Missing netplan-plan,1|verdict,optimal|gap,1|end
-12 Missing netplan-plan,1|verdict,infeasible|cost,1|end|end
-11 Missing netplan-plan,1|verdict,budget|end
-11 Missing netplan-plan,1|verdict,overflow|end
-12 AfterEnd netplan-plan,1|verdict,unbounded|end|end
-12 AfterEnd netplan-plan,1|verdict,unbounded|end|flow,u,1,1
-13 AfterEnd netplan-plan,1|verdict,optimal|cost,0|end|x";
+const FAULTS: &str = "1 NoEnd 
+1 Header netplan,1
+1 Header netplan-plan
+1 Header netplan-plan,1,
+1 Header netplan-plan,2|verdict,best
+2 NoEnd netplan-plan,1
+2 Header netplan-plan,1|end
+2 Header netplan-plan,1|verdict
+2 Header netplan-plan,1|verdict,best
+2 Header netplan-plan,1|verdict,optimal,1
+3 NoEnd netplan-plan,1|verdict,unbounded
+4 NoEnd netplan-plan,1|verdict,optimal|cost,0
+3 Unknown netplan-plan,1|verdict,optimal|verdict,optimal
+3 Unknown netplan-plan,1|verdict,optimal|node,A
+4 Unknown netplan-plan,1|verdict,optimal|cost,0|\"\"|end,1
+3 FieldCount netplan-plan,1|verdict,optimal|cost
+3 FieldCount netplan-plan,1|verdict,optimal|flow,w,0
+4 FieldCount netplan-plan,1|verdict,optimal|cost,0|pivot,2,x
+4 FieldCount netplan-plan,1|verdict,budget|cost,0|end,1|end
+3 NoSuchName netplan-plan,1|verdict,optimal|flow,A,0,x
+3 NoSuchName netplan-plan,1|verdict,optimal|price,u,1,1
+4 NoSuchName netplan-plan,1|verdict,optimal|cost,0|ray,x,9,1|end
+3 BadPeriod netplan-plan,1|verdict,optimal|flow,u,0,x
+3 BadPeriod netplan-plan,1|verdict,optimal|flow,u,3,1
+3 BadPeriod netplan-plan,1|verdict,optimal|flow,h,2,1
+3 BadPeriod netplan-plan,1|verdict,optimal|ray,h,2,1
+3 BadPeriod netplan-plan,1|verdict,optimal|price,A,*,1
+4 BadPeriod netplan-plan,1|verdict,optimal|cost,0|price,A,0000000001,1
+3 BadNumber netplan-plan,1|verdict,optimal|cost,1.5
+3 BadNumber netplan-plan,1|verdict,optimal|gap,1/0
+3 BadNumber netplan-plan,1|verdict,optimal|cost,170141183460469231731687303715884105728
+3 BadNumber netplan-plan,1|verdict,optimal|arc,-1
+3 BadNumber netplan-plan,1|verdict,optimal|arc,1000000000
+3 BadNumber netplan-plan,1|verdict,optimal|turned,1/1
+3 BadNumber netplan-plan,1|verdict,optimal|flow,u,1,inf
+3 BadNumber netplan-plan,1|verdict,optimal|past,A9,0,plus,1,1
+3 BadNumber netplan-plan,1|verdict,optimal|past,A1,turn,plus,1,1
+3 BadNumber netplan-plan,1|verdict,optimal|past,A4,turn,plus,1,1
+3 BadNumber netplan-plan,1|verdict,optimal|past,A8,0,plus,1,1
+3 BadNumber netplan-plan,1|verdict,optimal|past,A2,C0,plus,1,1
+3 BadNumber netplan-plan,1|verdict,optimal|past,A8,C7,plus,1,1
+3 BadNumber netplan-plan,1|verdict,optimal|past,A1,0,add,1,1
+3 BadNumber netplan-plan,1|verdict,optimal|past,A1,0,plus,1,x
+3 BadNumber netplan-plan,1|verdict,optimal|pivot,2,0,2,lower
+3 BadNumber netplan-plan,1|verdict,optimal|pivot,0,0,2,lower
+3 BadNumber netplan-plan,1|verdict,optimal|pivot,1,0,2,basic
+4 BadNumber netplan-plan,1|verdict,optimal|pivot,1,0,2,lower|pivot,1,0,2,lower
+4 BadNumber netplan-plan,1|verdict,optimal|pivot,1,0,2,lower|pivot,3,1,1,upper|end
+4 Repeated netplan-plan,1|verdict,optimal|flow,u,1,0|flow,u,01,1
+4 Repeated netplan-plan,1|verdict,infeasible|ray,h,1,0|ray,h,1,0
+5 Repeated netplan-plan,1|verdict,infeasible|gap,1|price,B,2,0|price,B,2,1/2|end
+4 Repeated netplan-plan,1|verdict,budget|cost,0|cost,0
+4 Repeated netplan-plan,1|verdict,budget|gap,0|gap,0
+4 Repeated netplan-plan,1|verdict,budget|arc,0|arc,0
+4 Repeated netplan-plan,1|verdict,budget|turned,0|turned,0
+4 Repeated netplan-plan,1|verdict,budget|past,A1,0,plus,1,1|past,A1,0,plus,1,1
+3 Missing netplan-plan,1|verdict,optimal|end
+4 Missing netplan-plan,1|verdict,optimal|gap,1|end
+4 Missing netplan-plan,1|verdict,infeasible|cost,1|end|end
+3 Missing netplan-plan,1|verdict,budget|end
+3 Missing netplan-plan,1|verdict,overflow|end
+4 AfterEnd netplan-plan,1|verdict,unbounded|end|end
+4 AfterEnd netplan-plan,1|verdict,unbounded|end|flow,u,1,1
+5 AfterEnd netplan-plan,1|verdict,optimal|cost,0|end|x";
 
-// A network of one period, of five records.
-const ONE_PERIOD: &str = "netplan,1|periods,1|node,A|hold,h,A,1,0,inf,0|end|";
-
-// What a row gives is as in FAULTS: a hold has no period to lead into.
-const HOLDS: &str = "8 BadPeriod netplan-plan,1|verdict,optimal|flow,h,1,0
-8 BadPeriod netplan-plan,1|verdict,unbounded|ray,h,1,0|end";
+// What a row gives is as in FAULTS, over one period: a hold has none to lead into.
+const HOLDS: &str = "3 BadPeriod netplan-plan,1|verdict,optimal|flow,h,1,0
+3 BadPeriod netplan-plan,1|verdict,unbounded|ray,h,1,0|end";
 
 // These parts of a text, one after the other.
-fn text_of<'a>(
-    alloc: Global,
-    first: &'a str,
-    second: &'a str,
-    third: &'a str,
-) -> Result<Vec<u8>, Fail> {
+fn text_of(alloc: Global, first: &str, second: &str) -> Result<Vec<u8>, Fail> {
     let mut text = Vec::new(alloc);
-    for part in [first, second, third] {
+    for part in [first, second] {
         for byte in part.as_bytes() {
             text.push(if *byte == b'|' { b'\n' } else { *byte })?;
         }
@@ -102,65 +152,53 @@ fn text_of<'a>(
     Ok(text)
 }
 
-// The scheme of a text, and what reading the plan behind it answers.
-fn read(alloc: Global, text: &[u8]) -> Result<(Scheme, Result<Plan, Refused>), Fail>
-    ensures { IfOk result (λ read. IfOk read.1 (PlanFits read.0)) }
-{
+// The plan of a text without a fault, over two periods.
+fn whole(alloc: Global, records: &str) -> Result<Plan, Fail> {
+    let text = text_of(alloc, records, "")?;
     if 100_000 < text.len() {
         return Err(Fail::from("long"));
     }
-    match read_scheme(alloc, text, Tail::Plan) {
-        Ok(read) => {
-            let plan = read_plan(alloc, text, read.1, &read.0);
-            Ok((read.0, plan))
-        }
-        Err(_) => Err(Fail::from("network")),
-    }
-}
-
-// The plan of a text without a fault.
-fn whole(alloc: Global, records: &str) -> Result<Plan, Fail> {
-    let text = text_of(alloc, NETWORK, records, "")?;
-    let (_scheme, plan) = read(alloc, &text)?;
-    match plan {
+    let scheme = network(alloc, 2)?;
+    match read_plan(alloc, &text, 0, &scheme) {
         Ok(plan) => Ok(plan),
         Err(_) => Err(Fail::from("refused")),
     }
 }
 
 // The number and the word of the first fault of a plan text.
-fn fault(alloc: Global, text: &[u8]) -> Result<(u32, &'static [u8]), Fail> {
-    match read(alloc, text)?.1 {
-        Ok(_) => Err(Fail::from("a plan")),
-        Err(Refused::Memory) => Err(Fail::from("memory")),
-        Err(Refused::Fault { place, code }) => Ok((place, code.word())),
+fn fault(alloc: Global, scheme: &Scheme, records: &str) -> Result<(u32, &'static [u8]), Fail> {
+    let text = text_of(alloc, records, "")?;
+    if 100_000 < text.len() {
+        return Err(Fail::from("long"));
     }
+    match read_plan(alloc, &text, 0, scheme) {
+        Ok(_) => Err(Fail::from("a plan")),
+        Err(PlanRefused::Memory) => Err(Fail::from("memory")),
+        Err(PlanRefused::Fault { place, code }) => Ok((place, code.word())),
+    }
+}
+
+// Fails at a row that does not tell the first fault of its records.
+fn are_told(alloc: Global, rows: &'static str, scheme: &Scheme) -> Result<(), Fail> {
+    for row in rows.lines() {
+        let (place, rest) = row.split_once(' ').ok_or("no place")?;
+        let (word, records) = rest.split_once(' ').ok_or("no word")?;
+        let got = fault(alloc, scheme, records)?;
+        if got.0 != place.parse::<u32>()? || got.1 != word.as_bytes() {
+            return Err(Fail::from(row));
+        }
+    }
+    Ok(())
 }
 
 #[test]
 fn first_faults(rt: HostRuntime) -> Result<(), Fail> {
-    for row in FAULTS.lines() {
-        let (place, rest) = row.split_once(' ').ok_or("no place")?;
-        let (word, records) = rest.split_once(' ').ok_or("no word")?;
-        let text = text_of(rt.alloc(), NETWORK, records, "")?;
-        let got = fault(rt.alloc(), &text)?;
-        assert_eq!(rt; got.0, place.parse::<u32>()?, "{row}");
-        assert!(rt; got.1 == word.as_bytes(), "{row}");
-    }
-    Ok(())
+    are_told(rt.alloc(), FAULTS, &network(rt.alloc(), 2)?)
 }
 
 #[test]
 fn holds_of_one_period(rt: HostRuntime) -> Result<(), Fail> {
-    for row in HOLDS.lines() {
-        let (place, rest) = row.split_once(' ').ok_or("no place")?;
-        let (word, records) = rest.split_once(' ').ok_or("no word")?;
-        let text = text_of(rt.alloc(), ONE_PERIOD, records, "")?;
-        let got = fault(rt.alloc(), &text)?;
-        assert_eq!(rt; got.0, place.parse::<u32>()?, "{row}");
-        assert!(rt; got.1 == word.as_bytes(), "{row}");
-    }
-    Ok(())
+    are_told(rt.alloc(), HOLDS, &network(rt.alloc(), 1)?)
 }
 
 // Whether these are the fractions, by their texts.
@@ -244,8 +282,8 @@ fn other_verdicts(rt: HostRuntime) -> Result<(), Fail> {
     Ok(())
 }
 
-// The row, the place and the operation that passed.
-fn passed(alloc: Global, record: &str) -> Result<Option<Overflow>, Fail> {
+// The row, the place and the operation that overflowed.
+fn overflow(alloc: Global, record: &str) -> Result<Option<Overflow>, Fail> {
     let mut text = String::new(alloc);
     text.push_str("netplan-plan,1|verdict,overflow|")?;
     text.push_str(record)?;
@@ -253,7 +291,7 @@ fn passed(alloc: Global, record: &str) -> Result<Option<Overflow>, Fail> {
     Ok(whole(alloc, text.as_str())?.overflow)
 }
 
-// The difference of 1/2 and -3 passed there.
+// The difference of 1/2 and -3 overflowed there.
 fn minus_at(row: Row, place: Place) -> Result<Overflow, Fail> {
     let left = read_frac(b"1/2").ok_or("no fraction")?;
     let right = read_frac(b"-3").ok_or("no fraction")?;
@@ -268,13 +306,13 @@ fn minus_at(row: Row, place: Place) -> Result<Overflow, Fail> {
 #[test]
 fn overflows(rt: HostRuntime) -> Result<(), Fail> {
     let alloc = rt.alloc();
-    let got = passed(alloc, "past,A8,C0,minus,1/2,-3")?;
+    let got = overflow(alloc, "past,A8,C0,minus,1/2,-3")?;
     assert!(rt; got == Some(minus_at(Row::A8, Place::Check(CheckRow::C0))?));
-    let got = passed(alloc, "past,A1,007,minus,2/4,-3")?;
+    let got = overflow(alloc, "past,A1,007,minus,2/4,-3")?;
     assert!(rt; got == Some(minus_at(Row::A1, Place::Node(7))?));
-    let got = passed(alloc, "past,A7,turn,minus,1/2,-6/2")?;
+    let got = overflow(alloc, "past,A7,turn,minus,1/2,-6/2")?;
     assert!(rt; got == Some(minus_at(Row::A7, Place::Turn)?));
-    let got = passed(alloc, "past,A5,999999999,minus,1/2,-3")?;
+    let got = overflow(alloc, "past,A5,999999999,minus,1/2,-3")?;
     assert!(rt; got == Some(minus_at(Row::A5, Place::Arc(999_999_999))?));
     Ok(())
 }
@@ -300,11 +338,13 @@ netplan-plan,1|verdict,overflow|past,A1,3,times,1,-1/9|;
 netplan-plan,1|verdict,overflow|past,A5,4,plus,1,1|end;\
 netplan-plan,1|verdict,overflow|past,A5,4,plus,1,1|;";
 
-// The text of the plan that stands behind the network in this one.
-fn text_again(alloc: Global, text: &[u8], log: bool) -> Result<Vec<u8>, Fail> {
-    let read = read(alloc, text)?;
-    match &read.1 {
-        Ok(plan) => Ok(plan_text(alloc, &read.0, plan, log)?),
+// The text of the plan of this one.
+fn text_again(alloc: Global, scheme: &Scheme, text: &[u8], log: bool) -> Result<Vec<u8>, Fail> {
+    if 100_000 < text.len() {
+        return Err(Fail::from("long"));
+    }
+    match read_plan(alloc, text, 0, scheme) {
+        Ok(plan) => Ok(plan_text(alloc, scheme, &plan, log)?),
         Err(_) => Err(Fail::from("refused")),
     }
 }
@@ -313,19 +353,18 @@ fn text_again(alloc: Global, text: &[u8], log: bool) -> Result<Vec<u8>, Fail> {
 #[test]
 fn texts_of_plans(rt: HostRuntime) -> Result<(), Fail> {
     let alloc = rt.alloc();
+    let scheme = network(alloc, 2)?;
     for row in TEXTS.lines() {
         let (records, rest) = row.split_once(';').ok_or("no text")?;
         let (before, log) = rest.split_once(';').ok_or("no log")?;
-        let given = text_of(alloc, NETWORK, records, "")?;
-        let plain = text_of(alloc, before, "end|", "")?;
-        let logged = text_of(alloc, before, log, "end|")?;
-        assert!(rt; text_again(alloc, &given, false)? == plain, "{row}");
-        assert!(rt; text_again(alloc, &given, true)? == logged, "{row}");
-
-        let mut again = text_of(alloc, NETWORK, "", "")?;
-        again.extend_from_slice(&logged)?;
-        assert!(rt; text_again(alloc, &again, false)? == plain, "{row}");
-        assert!(rt; text_again(alloc, &again, true)? == logged, "{row}");
+        let given = text_of(alloc, records, "")?;
+        let plain = text_of(alloc, before, "end|")?;
+        let mut logged = text_of(alloc, before, log)?;
+        logged.extend_from_slice(b"end\n")?;
+        for text in [&given, &logged] {
+            assert!(rt; text_again(alloc, &scheme, text, false)? == plain, "{row}");
+            assert!(rt; text_again(alloc, &scheme, text, true)? == logged, "{row}");
+        }
     }
     Ok(())
 }

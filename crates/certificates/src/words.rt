@@ -1,13 +1,13 @@
 //! The words of plan texts.
 
 ghost use Rattle.std.specs.Prelude.{◌≡◌};
-ghost use Rattle.certificates.specs.Words.{verdict_word, mark_word, op_word, row_word, check_row_word, verdict_of, mark_of, op_of, row_of, check_row_of};
+ghost use Rattle.certificates.specs.Words.{verdict_of, mark_of, op_of, row_of, check_row_of};
 
 use np_frac::Op;
 use np_model::{CheckRow, Mark, Row, Verdict};
 
 /// The verdict with this word.
-#[tactic(auto, unfolding(crate::specs::Words::verdict_word))]
+#[tactic(auto, unfolding(np_model::specs::Scheme::Verdicts::verdict_word))]
 pub(crate) fn verdict_of(bytes: &[u8]) -> Option<Verdict>
     ensures { result ≡ verdict_of bytes.now }
 {
@@ -27,7 +27,7 @@ pub(crate) fn verdict_of(bytes: &[u8]) -> Option<Verdict>
 }
 
 /// The bound with this word at which an arc comes to rest.
-#[tactic(auto, unfolding(crate::specs::Words::mark_word))]
+#[tactic(auto, unfolding(np_model::specs::Scheme::Verdicts::mark_word))]
 pub(crate) fn mark_of(bytes: &[u8]) -> Option<Mark>
     ensures { result ≡ mark_of bytes.now }
 {
@@ -41,7 +41,7 @@ pub(crate) fn mark_of(bytes: &[u8]) -> Option<Mark>
 }
 
 /// The operation with this word.
-#[tactic(auto, unfolding(crate::specs::Words::op_word))]
+#[tactic(auto, unfolding(np_frac::specs::Words::op_word))]
 pub(crate) fn op_of(bytes: &[u8]) -> Option<Op>
     ensures { result ≡ op_of bytes.now }
 {
@@ -59,7 +59,7 @@ pub(crate) fn op_of(bytes: &[u8]) -> Option<Op>
 }
 
 /// The row of the solver's arithmetic with this name.
-#[tactic(auto, unfolding(crate::specs::Words::row_word))]
+#[tactic(auto, unfolding(np_model::specs::Scheme::Verdicts::row_word))]
 pub(crate) fn row_of(bytes: &[u8]) -> Option<Row>
     ensures { result ≡ row_of bytes.now }
 {
@@ -85,7 +85,7 @@ pub(crate) fn row_of(bytes: &[u8]) -> Option<Row>
 }
 
 /// The row of the checker's arithmetic with this name.
-#[tactic(auto, unfolding(crate::specs::Words::check_row_word))]
+#[tactic(auto, unfolding(np_model::specs::Scheme::Verdicts::check_row_word))]
 pub(crate) fn check_row_of(bytes: &[u8]) -> Option<CheckRow>
     ensures { result ≡ check_row_of bytes.now }
 {
@@ -105,77 +105,5 @@ pub(crate) fn check_row_of(bytes: &[u8]) -> Option<CheckRow>
         Some(CheckRow::C6)
     } else {
         None
-    }
-}
-
-/// The word of a verdict.
-#[tactic(auto, unfolding(crate::specs::Words::verdict_word))]
-pub(crate) fn verdict_word(verdict: Verdict) -> &'static [u8]
-    ensures { result.now ≡ verdict_word verdict }
-{
-    match verdict {
-        Verdict::Optimal => b"optimal",
-        Verdict::Infeasible => b"infeasible",
-        Verdict::Unbounded => b"unbounded",
-        Verdict::Budget => b"budget",
-        Verdict::Overflow => b"overflow",
-    }
-}
-
-/// The word of a bound at which an arc comes to rest, and of the basis.
-#[tactic(auto, unfolding(crate::specs::Words::mark_word))]
-pub(crate) fn mark_word(mark: Mark) -> &'static [u8]
-    ensures { result.now ≡ mark_word mark }
-{
-    match mark {
-        Mark::Lower => b"lower",
-        Mark::Upper => b"upper",
-        Mark::Basic => b"basic",
-    }
-}
-
-/// The word of an operation.
-#[tactic(auto, unfolding(crate::specs::Words::op_word))]
-pub fn op_word(op: Op) -> &'static [u8]
-    ensures { result.now ≡ op_word op }
-{
-    match op {
-        Op::Plus => b"plus",
-        Op::Minus => b"minus",
-        Op::Times => b"times",
-        Op::Over => b"over",
-    }
-}
-
-/// The name of a row of the solver's arithmetic.
-#[tactic(auto, unfolding(crate::specs::Words::row_word))]
-pub(crate) fn row_word(row: Row) -> &'static [u8]
-    ensures { result.now ≡ row_word row }
-{
-    match row {
-        Row::A1 => b"A1",
-        Row::A2 => b"A2",
-        Row::A3 => b"A3",
-        Row::A4 => b"A4",
-        Row::A5 => b"A5",
-        Row::A6 => b"A6",
-        Row::A7 => b"A7",
-        Row::A8 => b"A8",
-    }
-}
-
-/// The name of a row of the checker's arithmetic.
-#[tactic(auto, unfolding(crate::specs::Words::check_row_word))]
-pub fn check_row_word(row: CheckRow) -> &'static [u8]
-    ensures { result.now ≡ check_row_word row }
-{
-    match row {
-        CheckRow::C0 => b"C0",
-        CheckRow::C1 => b"C1",
-        CheckRow::C2 => b"C2",
-        CheckRow::C3 => b"C3",
-        CheckRow::C4 => b"C4",
-        CheckRow::C5 => b"C5",
-        CheckRow::C6 => b"C6",
     }
 }

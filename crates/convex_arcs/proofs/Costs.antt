@@ -14,8 +14,8 @@ use Rattle.np_model.specs.declared.arc.Upper.{Upper}
 use Rattle.np_model.specs.declared.arc.Upper.TheVariants.{Finite, Infinite}
 use Rattle.np_model.specs.declared.arc.NetArc.{NetArc}
 use Rattle.np_model.specs.declared.scheme.Band.{Band}
-use Rattle.np_model.specs.Network.{IsAtMost}
-use Rattle.np_model.specs.Stages.{Stage, segments_beyond, lesser, amount_in, cost_at, end_after, IsConvexFrom, IsUnder, IsValid}
+use Rattle.np_model.specs.Network.Arcs.{IsAtMost, lesser, IsUnder}
+use Rattle.np_model.specs.Scheme.Segments.{Stage, segments_beyond, amount_in, cost_at, end_after, IsConvexFrom, IsValid}
 use Rattle.period_expand.specs.Expansion.{segment_count}
 use Rattle.convex_arcs.specs.Segments.{band_arc, segment_arcs, flat_arcs}
 use Rattle.convex_arcs.specs.Gathered.{amounts_of, AmountsCostNoMore}

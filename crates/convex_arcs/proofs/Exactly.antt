@@ -5,19 +5,20 @@ use Rattle.std.proofs.Common.{refl, arith, sym, ap, ◌∙◌}
 use Rattle.std.proofs.lemmas.List.{length-append, length-map, length-take-le, length-drop, drop-drop}
 use Rattle.std.proofs.lemmas.List.Sums.{sum_by-cons}
 use Rattle.np_frac.specs.Ratio.{Ratio, zero_ratio, ◌+ᵣ◌, ◌*ᵣ◌, total}
-use Rattle.np_frac.specs.Exact.{plus_of}
+use Rattle.np_frac.specs.Exact.{◌▷◌, plus_of}
 use Rattle.np_frac.specs.declared.frac.Past.{Past}
 use Rattle.np_frac.proofs.RatioLaws.{+ᵣ_assoc, zero-+ᵣ, *ᵣ-+ᵣ, *ᵣ-zero}
 use Rattle.np_frac.proofs.Sums.{sum, total_is}
 use Rattle.np_frac.proofs.Exactness.{plus_exact}
+use Rattle.np_model.proofs.Balance.{balance-is}
 use Rattle.np_model.specs.declared.arc.Ends.{Ends}
 use Rattle.np_model.specs.declared.arc.NetArc.{NetArc}
 use Rattle.np_model.specs.declared.scheme.Band.{Band}
-use Rattle.np_model.specs.Network.{coefficient}
-use Rattle.np_model.specs.Stages.{Stage, hull}
+use Rattle.np_model.specs.Network.Arcs.{coefficient}
+use Rattle.np_model.specs.Scheme.Segments.{Stage, hull}
 use Rattle.period_expand.specs.Expansion.{segment_count}
 use Rattle.convex_arcs.specs.Segments.{band_arc, segment_arcs, flat_arcs, segments_before}
-use Rattle.convex_arcs.specs.Gathered.{◌▷◌, sum_from, gathered, amounts_of, GatheredIsExact, AmountsByPlace, AmountsBalance}
+use Rattle.convex_arcs.specs.Gathered.{sum_from, gathered, amounts_of, GatheredIsExact, AmountsByPlace, AmountsBalance}
 
 -- ---- exact
 
@@ -102,4 +103,6 @@ sums_balance v (s ∷ stages) flows h =
 
 pub balances : AmountsBalance
 balances stages flows h v =
-    total_is (carried v) (zip (map hull stages) (amounts_of stages flows)) ∙ sums_balance v stages flows h ∙ sym (total_is (carried v) (zip (flat_arcs stages) flows))
+    balance-is (map hull stages) (amounts_of stages flows) v
+    ∙ total_is (carried v) (zip (map hull stages) (amounts_of stages flows)) ∙ sums_balance v stages flows h ∙ sym (total_is (carried v) (zip (flat_arcs stages) flows))
+    ∙ sym (balance-is (flat_arcs stages) flows v)

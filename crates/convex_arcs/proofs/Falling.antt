@@ -12,9 +12,8 @@ use Rattle.np_model.specs.declared.arc.Upper.{Upper}
 use Rattle.np_model.specs.declared.arc.Upper.TheVariants.{Finite, Infinite}
 use Rattle.np_model.specs.declared.arc.NetArc.{NetArc}
 use Rattle.np_model.specs.declared.scheme.Band.{Band}
-use Rattle.np_model.specs.Network.{plan_cost}
-use Rattle.np_model.specs.Valid.{AreReached}
-use Rattle.np_model.specs.Stages.{Stage, hull, last_end, last_slope, end_after}
+use Rattle.np_model.specs.Network.Flows.{plan_cost}
+use Rattle.np_model.specs.Scheme.Segments.{AreReached, Stage, hull, last_end, last_slope, end_after}
 use Rattle.period_expand.specs.Expansion.{IsSoundStage, segment_count}
 use Rattle.convex_arcs.specs.Segments.{band_arc, segment_arcs, flat_arcs}
 use Rattle.convex_arcs.specs.Gathered.{amounts_of}

@@ -12,9 +12,10 @@ use Rattle.np_model.specs.declared.arc.Ends.{Ends}
 use Rattle.np_model.specs.declared.arc.Upper.{Upper}
 use Rattle.np_model.specs.declared.arc.Upper.TheVariants.{Finite, Infinite}
 use Rattle.np_model.specs.declared.scheme.Band.{Band}
-use Rattle.np_model.specs.Valid.{AreReached}
-use Rattle.np_model.specs.Network.{IsAtMost, IsWithin, balance, plan_cost}
-use Rattle.np_model.specs.Stages.{Stage, hull, segments_beyond, lesser, amount_in, cost_at, end_after, IsConvexFrom, IsUnder, IsValid, StagesFeasible, stages_cost}
+use Rattle.np_model.specs.Scheme.Segments.{AreReached, Stage, hull, segments_beyond, amount_in, cost_at, end_after, IsConvexFrom, IsValid}
+use Rattle.np_model.specs.Network.Arcs.{IsAtMost, IsWithin, lesser, IsUnder}
+use Rattle.np_model.specs.Network.Flows.{balance, plan_cost}
+use Rattle.np_model.specs.Scheme.Convex.{StagesFeasible, stages_cost}
 use Rattle.np_model.proofs.Convex.{lesser_within, lesser_least, under_end_after, part, part_not_negative, part_within, parts_are}
 use Rattle.period_expand.specs.Expansion.{IsSoundStage, IsExpansion, segment_count}
 use Rattle.convex_arcs.specs.Segments.{band_arc, segment_arcs, flat_arcs}

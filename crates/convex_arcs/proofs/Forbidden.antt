@@ -12,8 +12,10 @@ use Rattle.np_model.specs.declared.arc.Upper.{Upper}
 use Rattle.np_model.specs.declared.arc.Upper.TheVariants.{Finite, Infinite}
 use Rattle.np_model.specs.declared.arc.NetArc.{NetArc}
 use Rattle.np_model.specs.declared.scheme.Band.{Band}
-use Rattle.np_model.specs.Network.{IsFinite, bound_of, least_worth, reduced, at}
-use Rattle.np_model.specs.Stages.{Stage, hull, last_end, end_after}
+use Rattle.np_model.specs.Network.Arcs.{IsFinite, bound_of}
+use Rattle.np_model.specs.Network.Duality.{least_worth, reduced}
+use Rattle.np_model.specs.Network.Flows.{at}
+use Rattle.np_model.specs.Scheme.Segments.{Stage, hull, last_end, end_after}
 use Rattle.convex_arcs.specs.Segments.{band_arc, segment_arcs, flat_arcs}
 use Rattle.convex_arcs.specs.Filled.{ForbiddenOnBothSides}
 

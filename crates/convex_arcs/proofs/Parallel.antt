@@ -12,9 +12,9 @@ use Rattle.np_model.specs.declared.arc.Upper.{Upper}
 use Rattle.np_model.specs.declared.arc.Upper.TheVariants.{Finite, Infinite}
 use Rattle.np_model.specs.declared.arc.Ends.{Ends}
 use Rattle.np_model.specs.declared.scheme.Band.{Band}
-use Rattle.np_model.specs.Network.{IsAtMost}
-use Rattle.np_model.specs.Stages.{Stage, IsUnder, IsConvexFrom}
-use Rattle.np_model.specs.Nets.{AreNodes, IsGaining, IsSoundArc, IsNet}
+use Rattle.np_model.specs.Network.Arcs.{IsAtMost, IsUnder, AreNodes, IsGaining}
+use Rattle.np_model.specs.Scheme.Segments.{Stage, IsConvexFrom}
+use Rattle.np_model.specs.Network.Nets.{IsSoundArc, IsNet}
 use Rattle.period_expand.specs.Expansion.{IsSoundStage, IsExpansion, segment_count}
 use Rattle.convex_arcs.specs.Segments.{first_arc, band_arc, segment_arcs, flat_arcs, segments_before, SegmentsStandInOrder, HasNoOtherSegments}
 

@@ -12,8 +12,10 @@ use Rattle.np_model.specs.declared.arc.Upper.{Upper}
 use Rattle.np_model.specs.declared.arc.Upper.TheVariants.{Finite, Infinite}
 use Rattle.np_model.specs.declared.arc.NetArc.{NetArc}
 use Rattle.np_model.specs.declared.scheme.Band.{Band}
-use Rattle.np_model.specs.Network.{IsAtMost, IsFull, IsSlack, pull, reduced}
-use Rattle.np_model.specs.Stages.{Stage, Segment, segments, segments_beyond, end_after, IsConvexFrom, IsUnder, IsKink}
+use Rattle.np_model.specs.Network.Arcs.{IsAtMost, IsFull, IsUnder}
+use Rattle.np_model.specs.Network.Duality.{IsSlack, pull, reduced}
+use Rattle.np_model.specs.Scheme.Segments.{Stage, Segment, segments, segments_beyond, end_after, IsConvexFrom}
+use Rattle.np_model.specs.Scheme.Convex.{IsKink}
 use Rattle.period_expand.specs.Expansion.{IsSoundStage, segment_count}
 use Rattle.convex_arcs.specs.Segments.{band_arc, segment_arcs, flat_arcs}
 use Rattle.convex_arcs.specs.Gathered.{amounts_of}

@@ -6,7 +6,7 @@ use Rattle.std.proofs.lemmas.List.Elements.{All-cons, All-nil}
 use Rattle.np_frac.specs.Ratio.{Ratio, whole, ◌≤ᵣ◌, ◌<ᵣ◌}
 use Rattle.np_model.specs.declared.arc.Ends.TheVariants.{Link}
 use Rattle.np_model.specs.declared.arc.Upper.TheVariants.{Finite, Infinite}
-use Rattle.np_model.specs.Stages.{Stage}
+use Rattle.np_model.specs.Scheme.Segments.{Stage}
 use Rattle.period_expand.specs.Expansion.{IsSoundStage, IsExpansion}
 
 abbrev pub stage : Stage

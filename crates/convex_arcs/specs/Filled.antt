@@ -2,8 +2,11 @@
 use Rattle.std.specs.Prelude.{◌≡◌, List, ◌∷◌, map}
 use Rattle.std.specs.List.{flat_map, zip}
 use Rattle.np_frac.specs.Ratio.{Ratio}
-use Rattle.np_model.specs.Network.{Feasible, Least, Shows, Impossible, Ray, gap, plan_cost}
-use Rattle.np_model.specs.Stages.{Stage, lesser, amount_in, segments_beyond, StagesFeasible, StagesLeast, StagesShow, StagesImpossible, StagesRay, stages_gap, stages_cost}
+use Rattle.np_model.specs.Network.Flows.{Feasible, Least, plan_cost}
+use Rattle.np_model.specs.Network.Duality.{Shows, Impossible, Ray, gap}
+use Rattle.np_model.specs.Scheme.Segments.{Stage, amount_in, segments_beyond}
+use Rattle.np_model.specs.Network.Arcs.{lesser}
+use Rattle.np_model.specs.Scheme.Convex.{StagesFeasible, StagesLeast, StagesShow, StagesImpossible, StagesRay, stages_gap, stages_cost}
 use Rattle.period_expand.specs.Expansion.{IsExpansion}
 use Rattle.convex_arcs.specs.Segments.{flat_arcs}
 use Rattle.convex_arcs.specs.Gathered.{flat_net, amounts_of}

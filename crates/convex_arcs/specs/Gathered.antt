@@ -2,20 +2,15 @@
 use Rattle.std.specs.Prelude.{◌≡◌, ℕ, Some, Result, Ok, Err, List, [], ◌∷◌, length, map, take, drop}
 use Rattle.std.specs.List.{All, slice_get}
 use Rattle.np_frac.specs.Ratio.{Ratio, zero_ratio, total, ◌≤ᵣ◌}
-use Rattle.np_frac.specs.Exact.{plus_of}
+use Rattle.np_frac.specs.Exact.{plus_of, ◌▷◌}
 use Rattle.np_frac.specs.declared.frac.Past.{Past}
-use Rattle.np_model.specs.Stages.{Stage, hull, StagesFeasible, IsValid, stages_cost}
-use Rattle.np_model.specs.Network.{Network, Feasible, balance, plan_cost}
+use Rattle.np_model.specs.Scheme.Segments.{Stage, hull, IsValid}
+use Rattle.np_model.specs.Scheme.Convex.{StagesFeasible, stages_cost}
+use Rattle.np_model.specs.Network.Flows.{Network, Feasible, balance, plan_cost}
 use Rattle.period_expand.specs.Expansion.{segment_count}
 use Rattle.convex_arcs.specs.Segments.{segments_before, flat_arcs}
 use Rattle.convex_arcs.specs.declared.amounts.GatherRefusal.{GatherRefusal}
 use Rattle.convex_arcs.specs.declared.amounts.GatherRefusal.TheVariants as refusal
-
--- go on with what was found, or stop at the first addition that passes
-infixl 10 ◌▷◌
-abbrev pub ◌▷◌ : {A B : Type 0} → Result A Past → (A → Result B Past) → Result B Past
-(Ok x) ▷ f = f x
-(Err past) ▷ f = Err past
 
 -- a sum from this one on, in order
 abbrev pub sum_from : Ratio → List Ratio → Result Ratio Past

@@ -6,7 +6,7 @@ use Rattle.np_frac.specs.Ratio.{zero_ratio}
 use Rattle.np_model.specs.declared.arc.Ends.{Ends}
 use Rattle.np_model.specs.declared.arc.NetArc.{NetArc}
 use Rattle.np_model.specs.declared.scheme.Band.{Band}
-use Rattle.np_model.specs.Stages.{Stage}
+use Rattle.np_model.specs.Scheme.Segments.{Stage}
 use Rattle.period_expand.specs.Expansion.{segment_count}
 
 -- the first segment has the bounds and the cost of its stage

@@ -2,7 +2,10 @@
 
 ghost use Rattle.convex_arcs.specs.Gathered.{GatheredIsExact, AmountsByPlace, AmountsBalance, AmountsFeasible, AmountsCostNoMore};
 ghost use Rattle.convex_arcs.specs.Filled.{FilledIsFeasible, FilledCostsTheSame, FilledGathersBack, LeastOnBothSides, LeastPlansFill, ShownOnBothSides, ForbiddenOnBothSides, FallsOnBothSides};
+ghost use Rattle.convex_arcs.specs.Schemes.{LeastFlowsGather, LeastPlansAreFilled};
 ghost use Rattle.convex_arcs.specs.Segments.{SegmentsStandInOrder, HasNoOtherSegments};
+
+use period_expand::laws::expansions;
 
 /// Segment `k` (from 0) of a staged arc stands behind the segments of all staged arcs before it and behind `k` of its
 /// own, and there are no other arcs.
@@ -34,6 +37,15 @@ pub fn filled_plans()
     ensures fills { LeastPlansFill }
     ensures shown { ShownOnBothSides }
 {}
+
+/// The expanded network of a scheme has the scheme's least cost: its flows of least cost are gathered to a plan of least
+/// cost of the scheme, at equal cost, and a plan of least cost of the scheme fills in flows of least cost.
+pub fn schemes()
+    ensures gathers { LeastFlowsGather }
+    ensures fills { LeastPlansAreFilled }
+{
+    expansions();
+}
 
 /// Prices that certify that no flows are feasible for the arcs of the segments certify that the staged arcs have no
 /// plan, with the same gap, and a ray of the flows gives one of the amounts.

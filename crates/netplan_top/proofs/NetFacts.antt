@@ -9,9 +9,9 @@ use Rattle.std.proofs.lemmas.List.Sums.{sum_by-cons}
 use Rattle.np_records.specs.Texts.{record_text, records_text}
 use Rattle.np_model.specs.declared.arc.NetArc.{NetArc}
 use Rattle.np_model.specs.declared.scheme.Band.{Band}
-use Rattle.np_model.specs.Stages.{Stage}
+use Rattle.np_model.specs.Scheme.Segments.{Stage}
 use Rattle.period_expand.specs.Expansion.{segment_count}
-use Rattle.np_model.specs.Schemes.{staged}
+use Rattle.np_model.specs.Scheme.Plans.{staged}
 use Rattle.convex_arcs.specs.Segments.{first_arc, band_arc, segment_arcs, flat_arcs}
 use Rattle.np_model.specs.declared.scheme.Scheme.{Scheme}
 use Rattle.netplan_top.specs.Texts.{end_record}

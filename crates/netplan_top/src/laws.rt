@@ -4,9 +4,9 @@ ghost use Rattle.std.specs.Prelude.{◌≡◌, ◌++◌, ℕ, Bool, List, length
 ghost use Rattle.std.specs.List.{flat_map};
 ghost use Rattle.np_model.specs.declared.scheme.Scheme.{Scheme};
 ghost use Rattle.np_model.specs.declared.plan.Plan.{Plan};
-ghost use Rattle.np_model.specs.Schemes.{staged};
-ghost use Rattle.np_model.specs.Stages.{Stage};
-ghost use Rattle.np_model.specs.Fits.{PlanFits};
+ghost use Rattle.np_model.specs.Scheme.Plans.{staged};
+ghost use Rattle.np_model.specs.Scheme.Segments.{Stage};
+ghost use Rattle.np_model.specs.Scheme.Fits.{PlanFits};
 ghost use Rattle.np_records.specs.Texts.{records_text};
 ghost use Rattle.net_csv.specs.Writing.{rows_of};
 ghost use Rattle.certificates.specs.Writing.{plan_rows, told, HasFractions};

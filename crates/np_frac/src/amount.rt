@@ -7,6 +7,11 @@ ghost use Rattle.np_frac.specs.Amount.{IsAmount, amount_of, IsAmountEnd, amount_
 use crate::digits::{read_number, split_at_mark, with_sign, without_minus};
 use crate::frac::Frac;
 
+// What the numerator and the denominator of a short amount are below, and the denominator of a decimal.
+const SHORT_NUM: u128 = 1_000_000_000_000_000_000;
+const SHORT_DEN: u128 = 10_000_000_000_000_000_000;
+const BILLION: u128 = 1_000_000_000;
+
 /// The upper and the lower number of an amount, from its whole number and what stands behind that.
 fn amount_parts(whole: u64, end: &[u8]) -> Option<(u128, u128)>
     requires { whole < 10 ^ 18 }
@@ -39,6 +44,21 @@ pub fn read_amount(bytes: &[u8]) -> Option<Frac>
     let (whole, end) = split_at_mark(without_minus(bytes));
     let (upper, lower) = amount_parts(read_number(whole, 18)?, end)?;
     Some(Frac::from_parts(with_sign(bytes, upper), lower))
+}
+
+impl Frac {
+    /// Whether it is the value of some amount: in lowest terms the numerator has at most 18 digits and the denominator at
+    /// most 19, or it is a whole number of billionths below 10^18 in size.
+    #[tactic(auto, unfolding(crate::specs::Amount::is_amount))]
+    pub fn is_amount(self) -> bool
+        ensures { result ≡ is_amount self }
+    {
+        let (size, den) = (self.num().unsigned_abs(), self.den() as u128);
+        if size < SHORT_NUM && den < SHORT_DEN {
+            return true;
+        }
+        BILLION % den == 0 && size < SHORT_NUM * den
+    }
 }
 
 #[cfg(test)]

@@ -1,4 +1,5 @@
 pub mod Network
 pub mod Scheme
+pub mod Steps
 pub use Rattle.np_frac.specs.Ratio
 pub use Rattle.np_frac.specs.Exact

@@ -3,6 +3,7 @@ pub mod Names
 pub mod Kinds
 pub mod Segments
 pub mod Valid
+pub mod Parts
 pub mod Convex
 pub mod Plans
 pub mod Verdicts

@@ -3,6 +3,7 @@
 #![tactic(auto)]
 
 mod arc;
+mod fits;
 mod gate;
 pub mod laws;
 mod lists;
@@ -11,6 +12,7 @@ mod network;
 mod plan;
 mod rows;
 mod scheme;
+mod valid;
 
 pub use arc::{Ends, NetArc, Upper};
 pub use gate::{Gate, OpenGate, Spot};

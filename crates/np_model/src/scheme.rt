@@ -47,7 +47,6 @@ impl FlowKind {
     pub fn ends_in(self, nodes: u32, period: u32) -> Ends
         requires some { 0 < period }
         requires few { (period + 1) * nodes < 2 ^ 32 }
-        requires short { period < 2 ^ 31 }
         requires joins { JoinsNodes nodes self }
         ensures { result ≡ ends_in nodes period self }
     {

@@ -10,10 +10,11 @@ use Rattle.np_model.specs.declared.scheme.FlowKind.{FlowKind}
 use Rattle.np_model.specs.declared.scheme.FlowKind.TheVariants.{Link, Hold, Drain, Feed}
 use Rattle.np_model.specs.declared.scheme.Flow.{Flow}
 use Rattle.np_model.specs.declared.scheme.Scheme.{Scheme}
-use Rattle.np_model.specs.Stages.{Stage}
-use Rattle.np_model.specs.Nets.{AreNodes, IsGaining}
-use Rattle.np_model.specs.Valid.{IsSound, JoinsNodes, HasGain, periods_of, expanded_arcs}
-use Rattle.np_model.specs.Schemes.{node_in, ends_in, is_hold, stage_in, stage_of, staged}
+use Rattle.np_model.specs.Scheme.Segments.{Stage}
+use Rattle.np_model.specs.Network.Arcs.{AreNodes, IsGaining}
+use Rattle.np_model.specs.Scheme.Valid.{IsSound, expanded_arcs}
+use Rattle.np_model.specs.Scheme.Kinds.{JoinsNodes, HasGain, periods_of, node_in, ends_in, is_hold}
+use Rattle.np_model.specs.Scheme.Plans.{stage_in, stage_of, staged}
 use Rattle.period_expand.specs.Expansion.{IsSoundStage, IsExpansion, segment_count}
 use Rattle.period_expand.proofs.Standing.{last_apart, piece}
 

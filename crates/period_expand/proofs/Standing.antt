@@ -10,8 +10,9 @@ use Rattle.std.proofs.lemmas.List.Concat.{flat_map-append}
 use Rattle.std.proofs.lemmas.Option.{slice_get_read, slice_get_within, get_or_from_slice_get}
 use Rattle.np_model.specs.declared.scheme.Flow.{Flow}
 use Rattle.np_model.specs.declared.scheme.Scheme.{Scheme}
-use Rattle.np_model.specs.Stages.{Stage}
-use Rattle.np_model.specs.Schemes.{is_hold, stage_in, stage_of, staged}
+use Rattle.np_model.specs.Scheme.Segments.{Stage}
+use Rattle.np_model.specs.Scheme.Kinds.{is_hold}
+use Rattle.np_model.specs.Scheme.Plans.{stage_in, stage_of, staged}
 use Rattle.period_expand.specs.Places.{arcs_in, StandsAtItsPlace, HasNoOthers}
 use Rattle.period_expand.proofs.Grows.{enumerate_from-append}
 

@@ -12,7 +12,9 @@ use Rattle.np_model.specs.declared.arc.Upper.TheVariants.{Finite}
 use Rattle.np_model.specs.declared.scheme.FlowKind.{FlowKind}
 use Rattle.np_model.specs.declared.scheme.FlowKind.TheVariants.{Hold, Drain, Feed}
 use Rattle.np_model.specs.declared.scheme.Flow.{Flow}
-use Rattle.np_model.specs.Valid.{is_name, IsScheme, IsSound, JoinsNodes, HasGain, has_amount_gain}
+use Rattle.np_model.specs.Scheme.Names.{is_name}
+use Rattle.np_model.specs.Scheme.Valid.{IsScheme, IsSound, has_amount_gain}
+use Rattle.np_model.specs.Scheme.Kinds.{JoinsNodes, HasGain}
 
 -- a flow named by a letter, from 0 to 1 in each period, where a unit costs 1
 abbrev pub plain : ℕ → FlowKind → Flow

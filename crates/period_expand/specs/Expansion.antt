@@ -3,9 +3,8 @@ use Rattle.std.specs.Prelude.{ℕ, ◌+◌, ◌≤◌, List, length, sum_by}
 use Rattle.std.specs.List.{All}
 use Rattle.std.proofs.Props.{props}
 use Rattle.np_frac.specs.Ratio.{Ratio}
-use Rattle.np_model.specs.Stages.{Stage, IsValid, IsAtMost-prop, IsConvexFrom-prop}
-use Rattle.np_model.specs.Valid.{AreReached, AreReached-prop}
-use Rattle.np_model.specs.Nets.{AreNodes, AreNodes-prop, IsGaining, IsGaining-prop}
+use Rattle.np_model.specs.Scheme.Segments.{Stage, IsValid, IsConvexFrom-prop, AreReached, AreReached-prop}
+use Rattle.np_model.specs.Network.Arcs.{IsAtMost-prop, AreNodes, AreNodes-prop, IsGaining, IsGaining-prop}
 
 -- among n nodes: its ends, its gain, its bounds and slopes, and that each band begins at a finite end
 pub record IsSoundStage (n : ℕ) (s : Stage) : Type 0 where

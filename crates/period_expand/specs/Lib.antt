@@ -1,3 +1,3 @@
 pub mod Expansion
 pub mod Places
-pub use Rattle.np_model.specs.Schemes
+pub use Rattle.np_model.specs.Scheme.Plans

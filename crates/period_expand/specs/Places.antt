@@ -3,7 +3,8 @@ use Rattle.std.specs.Prelude.{◌≡◌, ℕ, ◌+◌, ◌-◌, ◌*◌, ◌==�
 use Rattle.std.specs.List.{slice_get, filter}
 use Rattle.np_model.specs.declared.scheme.Flow.{Flow}
 use Rattle.np_model.specs.declared.scheme.Scheme.{Scheme}
-use Rattle.np_model.specs.Schemes.{is_hold, stage_in, staged}
+use Rattle.np_model.specs.Scheme.Kinds.{is_hold}
+use Rattle.np_model.specs.Scheme.Plans.{stage_in, staged}
 
 -- how many of the flows have an arc in a period: all, but the holds in the last one
 abbrev pub arcs_in : Scheme → ℕ → List Flow → ℕ

@@ -2,13 +2,13 @@
 
 ghost use Rattle.std.specs.Prelude.{◌≡◌, ◌+◌, ◌*◌, ◌<◌, ◌≤◌, ◌++◌, IfOk, OnOk, length};
 ghost use Rattle.std.specs.List.{filter_map, enumerate_from};
-ghost use Rattle.np_model.specs.Valid.{JoinsNodes};
+ghost use Rattle.np_model.specs.Scheme.Kinds.{JoinsNodes};
 ghost use Rattle.period_expand.specs.Expansion.{IsExpansion, IsExpansion-prop};
-ghost use Rattle.np_model.specs.Schemes.{node_in, ends_in, is_hold, stage_of, staged};
+ghost use Rattle.np_model.specs.Scheme.Plans.{stage_of, staged};
 
 use crate::staged::{Staged, Stageds};
 use np_frac::Memory;
-use np_model::{Bands, Ends, Flow, FlowKind, Fracs, Scheme};
+use np_model::{Bands, Flow, Fracs, Scheme};
 use std::alloc::Global;
 
 /// A scheme over its periods: the supply of each node in each period, and the staged arcs by period and then in the
@@ -19,48 +19,6 @@ pub struct Expanded {
     pub supply: Fracs,
     pub staged: Stageds,
     pub ghost valid: { IsExpansion supply staged } by { IsExpansion-prop supply staged },
-}
-
-// The number of a node in a period among the nodes over all periods.
-fn node_in(nodes: u32, period: u32, node: u32) -> u32
-    requires period { 1 ≤ period }
-    requires within { node < nodes }
-    requires few { nodes * period ≤ 40000 }
-    ensures { result ≡ node_in nodes period node }
-{
-    (period - 1) * nodes + node
-}
-
-// The ends of a flow in a period.
-fn ends_in(nodes: u32, period: u32, kind: FlowKind) -> Ends
-    requires period { 1 ≤ period }
-    requires joins { JoinsNodes nodes kind }
-    requires few { nodes * (period + 1) ≤ 40000 }
-    ensures { result ≡ ends_in nodes period kind }
-{
-    match kind {
-        FlowKind::Link { from, to, gain } => Ends::Link {
-            from: node_in(nodes, period, from),
-            to: node_in(nodes, period, to),
-            gain,
-        },
-        FlowKind::Hold { node, gain } => Ends::Link {
-            from: node_in(nodes, period, node),
-            to: node_in(nodes, period + 1, node),
-            gain,
-        },
-        FlowKind::Drain { node } => Ends::Drain(node_in(nodes, period, node)),
-        FlowKind::Feed { node } => Ends::Feed(node_in(nodes, period, node)),
-    }
-}
-
-fn is_hold(kind: &FlowKind) -> bool
-    ensures { result ≡ is_hold kind.now }
-{
-    match kind {
-        FlowKind::Hold { .. } => true,
-        _ => false,
-    }
 }
 
 // The staged arc of a flow in a period, and `None` for a hold in the last one.
@@ -76,7 +34,7 @@ fn stage_of(
     requires few { length scheme.now.nodes * (period + 1) ≤ 40000 }
     ensures { IfOk result (λ stage. stage ≡ stage_of scheme.now.periods (length scheme.now.nodes) period (number, flow.now)) }
 {
-    if is_hold(&flow.kind) && period == scheme.periods {
+    if flow.kind.is_hold() && period == scheme.periods {
         return Ok(None);
     }
     let nodes = scheme.nodes.as_slice().len() as u32;
@@ -84,7 +42,7 @@ fn stage_of(
     Ok(Some(Staged {
         flow: number,
         period,
-        ends: ends_in(nodes, period, flow.kind),
+        ends: flow.kind.ends_in(nodes, period),
         lower: flow.lower,
         upper: flow.upper,
         cost: flow.cost,

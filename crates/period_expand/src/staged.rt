@@ -21,7 +21,7 @@ pub struct Staged {
 }
 
 impl Model for Staged {
-    ghost use Rattle.np_model.specs.Stages.{Stage};
+    ghost use Rattle.np_model.specs.Scheme.Segments.{Stage};
 
     ghost Value = { Stage };
 
@@ -36,7 +36,7 @@ pub struct Stageds {
 
 impl Model for Stageds {
     ghost use Rattle.std.specs.Prelude.{List};
-    ghost use Rattle.np_model.specs.Stages.{Stage};
+    ghost use Rattle.np_model.specs.Scheme.Segments.{Stage};
 
     ghost Value = { List Stage };
 

@@ -1,7 +1,7 @@
 use Rattle.std.proofs.Common.{◌<◌, length, arith}
 use Rattle.std.proofs.lemmas.Result.{err_from_is_err_and}
 use Rattle.std.specs.List.{zip, enumerate_from}
-use Rattle.cert_checker.specs.Sums.{sum_clause}
+use Rattle.cert_checker.specs.Steps.Parts.{sum_clause}
 use Rattle.cert_checker.proofs.First.{goes_on, stops, finds_none}
 use Rattle.cert_checker.proofs.Balances.{sum_at, length-sums}
 use Rattle.cert_checker.proofs.balance.check_sums.Goals as goal

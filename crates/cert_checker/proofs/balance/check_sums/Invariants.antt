@@ -1,7 +1,7 @@
 use Rattle.std.proofs.Common.{◌≡◌, None, take}
 use Rattle.std.specs.List.{zip, enumerate_from}
 use Rattle.cert_checker.specs.Walk.{first_refusal}
-use Rattle.cert_checker.specs.Sums.{sum_clause}
+use Rattle.cert_checker.specs.Steps.Parts.{sum_clause}
 use Rattle.cert_checker.proofs.balance.check_sums.Given as goal
 
 abbrev pub invariant-loop-node : goal.invariant-loop-node

@@ -11,9 +11,9 @@ use Rattle.cert_checker.proofs.gap.supply_worth.Goals as goal
 pub loop-v-preserved : goal.loop-v-preserved
 loop-v-preserved c =
     sym c.in_ok-running.was
-    ∙ runs_on (add_supply c.args.supply.now) (Ok zero_ratio) (enumerate_from 0 c.args.prices.now) c.loop-v.v (c.loop-v.v, c.index-prices-v.result) c.loop-v.running c.with_node.result
+    ∙ runs_on (add_supply c.args.supply.now) (Ok zero_ratio) (enumerate_from 0 c.args.prices.now) c.loop-v.v (c.loop-v.v, c.index-prices-v.result) c.loop-v.running c.add_supply.result
     (omega (arith, length-enumerate_from 0 c.args.prices.now, c.loop-v-test.true)) (numbered_at c.args.prices.now c.loop-v.v c.index-prices-v.result c.loop-v-test.true c.index-prices-v.is)
-    c.loop-v.invariant (c.with_node.ensures ∙ supply_step c.args.supply.now c.loop-v.v c.index-prices-v.result c.index-supply-v.result c.loop-v.running (omega (arith, c.requires, c.loop-v-test.true)) c.index-supply-v.is)
+    c.loop-v.invariant (c.add_supply.ensures ∙ supply_step c.args.supply.now c.loop-v.v c.index-prices-v.result c.index-supply-v.result c.loop-v.running (omega (arith, c.requires, c.loop-v-test.true)) c.index-supply-v.is)
 
 pub returns-in_err-running : goal.returns-in_err-running
 returns-in_err-running c =
@@ -21,9 +21,9 @@ returns-in_err-running c =
     rw (p.1, p.2)
     (run_stops (add_supply c.args.supply.now) (Ok zero_ratio) (enumerate_from 0 c.args.prices.now) (c.loop-v.v + 1) c.in_err-running.field-0.0
     (sym c.in_err-running.was
-    ∙ runs_on (add_supply c.args.supply.now) (Ok zero_ratio) (enumerate_from 0 c.args.prices.now) c.loop-v.v (c.loop-v.v, c.index-prices-v.result) c.loop-v.running c.with_node.result
+    ∙ runs_on (add_supply c.args.supply.now) (Ok zero_ratio) (enumerate_from 0 c.args.prices.now) c.loop-v.v (c.loop-v.v, c.index-prices-v.result) c.loop-v.running c.add_supply.result
     (omega (arith, length-enumerate_from 0 c.args.prices.now, c.loop-v-test.true)) (numbered_at c.args.prices.now c.loop-v.v c.index-prices-v.result c.loop-v-test.true c.index-prices-v.is)
-    c.loop-v.invariant (c.with_node.ensures ∙ supply_step c.args.supply.now c.loop-v.v c.index-prices-v.result c.index-supply-v.result c.loop-v.running (omega (arith, c.requires, c.loop-v-test.true)) c.index-supply-v.is)))
+    c.loop-v.invariant (c.add_supply.ensures ∙ supply_step c.args.supply.now c.loop-v.v c.index-prices-v.result c.index-supply-v.result c.loop-v.running (omega (arith, c.requires, c.loop-v-test.true)) c.index-supply-v.is)))
 
 pub returns : goal.returns
 returns c = run_ends (add_supply c.args.supply.now) (Ok zero_ratio) (enumerate_from 0 c.args.prices.now) c.loop-v.v c.loop-v.running (omega (arith, length-enumerate_from 0 c.args.prices.now, c.loop-v-test.false)) c.loop-v.invariant

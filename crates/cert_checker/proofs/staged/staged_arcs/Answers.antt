@@ -1,7 +1,7 @@
 use Rattle.std.proofs.Common.{ℕ, ◌+◌, ◌++◌, ◌∙◌, List, length, ap, sym}
 use Rattle.std.specs.List.{filter_map, enumerate_from}
-use Rattle.np_model.specs.Stages.{Stage}
-use Rattle.np_model.specs.Schemes.{stage_of}
+use Rattle.np_model.specs.Scheme.Segments.{Stage}
+use Rattle.np_model.specs.Scheme.Plans.{stage_of}
 use Rattle.cert_checker.proofs.Arcs.{periods_more}
 use Rattle.cert_checker.proofs.staged.staged_arcs.Goals as goal
 

@@ -1,44 +1,27 @@
-use Rattle.std.proofs.Common.{◌∙◌, Ok, ap, sym, subst, unwrap_or, length}
+use Rattle.std.proofs.Common.{refl, ◌∙◌, Ok, ap, unwrap_or, length}
 use Rattle.std.proofs.lemmas.Result.{err_from_is_err_and}
 use Rattle.np_frac.specs.Ratio.{Ratio}
-use Rattle.np_model.specs.Schemes.{staged}
+use Rattle.np_model.specs.Scheme.Plans.{staged}
 use Rattle.cert_checker.specs.Walk.{walk, amount_of, infeasible_refusal}
-use Rattle.cert_checker.specs.Proves.{ProvesInfeasible}
 use Rattle.cert_checker.specs.declared.answer.Checked.TheVariants as checked
 use Rattle.cert_checker.proofs.First.{as_meant, accepted_ok}
-use Rattle.cert_checker.proofs.Whole.{infeasible_fits, walk_infeasible, one_refuses, one_passes, reads, lists_there, lists_joined, forbidden_told, proves_infeasible}
+use Rattle.cert_checker.proofs.Whole.{infeasible_fits, walk_infeasible, one_refuses, one_holds, lists_joined, forbidden_told}
 use Rattle.cert_checker.proofs.walk.check_infeasible.Goals as goal
-
-pub check_forbidden-requires-clause-there : goal.check_forbidden-requires-clause-there
-check_forbidden-requires-clause-there c =
-    let lists = reads c.args.scheme.now c.as_slice-flows.result.now c.as_slice-arcs.result.now c.in_ok-staged.staged.items c.as_slice-flows.ensures c.as_slice-arcs.ensures.value c.in_ok-staged.ensures in
-    lists_there c.args.scheme.now c.args.plan.now c.as_slice-flows.result.now c.as_slice-arcs.result.now lists
 
 pub check_forbidden-requires-clause-joined : goal.check_forbidden-requires-clause-joined
 check_forbidden-requires-clause-joined c =
-    let lists = reads c.args.scheme.now c.as_slice-flows.result.now c.as_slice-arcs.result.now c.in_ok-staged.staged.items c.as_slice-flows.ensures c.as_slice-arcs.ensures.value c.in_ok-staged.ensures in
     let fits = infeasible_fits c.args.scheme.now c.args.plan.now c.requires.is c.requires.fits in
-    lists_joined c.args.scheme.now c.args.plan.now c.as_slice-flows.result.now c.as_slice-arcs.result.now lists c.as_slice.result.now (ap length c.as_slice.ensures ∙ fits.prices)
+    lists_joined c.args.scheme.now c.args.plan.now c.as_slice-arcs.result.now c.in_ok-staged.staged.items c.as_slice-arcs.ensures.value c.in_ok-staged.ensures c.as_slice.result.now (ap length c.as_slice.ensures ∙ (fits.prices refl))
 
-pub returns-in_err-check_forbidden-clause-walk : goal.returns-in_err-check_forbidden-clause-walk
-returns-in_err-check_forbidden-clause-walk c =
+pub returns-in_err-check_forbidden : goal.returns-in_err-check_forbidden
+returns-in_err-check_forbidden c =
     let p = err_from_is_err_and c.from_residual-in_err-check_forbidden.result c.from_residual-in_err-check_forbidden.ensures.1 in
-    let lists = reads c.args.scheme.now c.as_slice-flows.result.now c.as_slice-arcs.result.now c.in_ok-staged.staged.items c.as_slice-flows.ensures c.as_slice-arcs.ensures.value c.in_ok-staged.ensures in
     let gap = c.unwrap_or-gap.ensures ∙ ap (λ zero. unwrap_or c.args.plan.now.amount zero) c.whole.ensures in
-    let told = forbidden_told c.args.scheme.now c.args.plan.now c.as_slice-flows.result.now c.as_slice-arcs.result.now lists c.as_slice-2.result.now c.as_slice.result.now c.unwrap_or-gap.result c.check_forbidden.result c.as_slice-2.ensures c.as_slice.ensures gap c.check_forbidden.ensures in
+    let told = forbidden_told c.args.scheme.now c.args.plan.now c.as_slice-arcs.result.now c.in_ok-staged.staged.items c.as_slice-arcs.ensures.value c.in_ok-staged.ensures c.as_slice-2.result.now c.as_slice.result.now c.unwrap_or-gap.result c.check_forbidden.result c.as_slice-2.ensures c.as_slice.ensures gap c.check_forbidden.ensures in
     rw (p.1, p.2) (one_refuses (infeasible_refusal c.args.scheme.now.supply (staged c.args.scheme.now) c.args.plan.now.prices (amount_of c.args.plan.now)) (walk c.args.scheme.now c.args.plan.now) (checked.Infeasible (amount_of c.args.plan.now)) (walk_infeasible c.args.scheme.now c.args.plan.now c.requires.is) c.in_err-check_forbidden.field-0.0 c.check_forbidden.result (as_meant c.check_forbidden.result _ told) c.in_err-check_forbidden.was)
 
-pub returns-clause-walk : goal.returns-clause-walk
-returns-clause-walk c =
-    let lists = reads c.args.scheme.now c.as_slice-flows.result.now c.as_slice-arcs.result.now c.in_ok-staged.staged.items c.as_slice-flows.ensures c.as_slice-arcs.ensures.value c.in_ok-staged.ensures in
+pub returns : goal.returns
+returns c =
     let gap = c.unwrap_or-gap.ensures ∙ ap (λ zero. unwrap_or c.args.plan.now.amount zero) c.whole.ensures in
-    let told = forbidden_told c.args.scheme.now c.args.plan.now c.as_slice-flows.result.now c.as_slice-arcs.result.now lists c.as_slice-2.result.now c.as_slice.result.now c.unwrap_or-gap.result c.check_forbidden.result c.as_slice-2.ensures c.as_slice.ensures gap c.check_forbidden.ensures in
-    ap (λ (x : Ratio). Ok (checked.Infeasible x)) gap ∙ one_passes (infeasible_refusal c.args.scheme.now.supply (staged c.args.scheme.now) c.args.plan.now.prices (amount_of c.args.plan.now)) (walk c.args.scheme.now c.args.plan.now) (checked.Infeasible (amount_of c.args.plan.now)) (walk_infeasible c.args.scheme.now c.args.plan.now c.requires.is) (accepted_ok (infeasible_refusal c.args.scheme.now.supply (staged c.args.scheme.now) c.args.plan.now.prices (amount_of c.args.plan.now)) c.in_ok-check_forbidden.field-0 c.check_forbidden.result told c.in_ok-check_forbidden.was)
-
-pub returns-clause-proves : goal.returns-clause-proves
-returns-clause-proves c =
-    let lists = reads c.args.scheme.now c.as_slice-flows.result.now c.as_slice-arcs.result.now c.in_ok-staged.staged.items c.as_slice-flows.ensures c.as_slice-arcs.ensures.value c.in_ok-staged.ensures in
-    let gap = c.unwrap_or-gap.ensures ∙ ap (λ zero. unwrap_or c.args.plan.now.amount zero) c.whole.ensures in
-    let told = forbidden_told c.args.scheme.now c.args.plan.now c.as_slice-flows.result.now c.as_slice-arcs.result.now lists c.as_slice-2.result.now c.as_slice.result.now c.unwrap_or-gap.result c.check_forbidden.result c.as_slice-2.ensures c.as_slice.ensures gap c.check_forbidden.ensures in
-    let fits = infeasible_fits c.args.scheme.now c.args.plan.now c.requires.is c.requires.fits in
-    subst (λ (x : Ratio). ProvesInfeasible c.args.scheme.now c.args.plan.now x) (sym gap) (proves_infeasible c.reduced_costs.ensures c.infeasible_by_prices.ensures c.args.scheme.now c.args.plan.now fits (accepted_ok (infeasible_refusal c.args.scheme.now.supply (staged c.args.scheme.now) c.args.plan.now.prices (amount_of c.args.plan.now)) c.in_ok-check_forbidden.field-0 c.check_forbidden.result told c.in_ok-check_forbidden.was))
+    let told = forbidden_told c.args.scheme.now c.args.plan.now c.as_slice-arcs.result.now c.in_ok-staged.staged.items c.as_slice-arcs.ensures.value c.in_ok-staged.ensures c.as_slice-2.result.now c.as_slice.result.now c.unwrap_or-gap.result c.check_forbidden.result c.as_slice-2.ensures c.as_slice.ensures gap c.check_forbidden.ensures in
+    ap (λ (x : Ratio). Ok (checked.Infeasible x)) gap ∙ one_holds (infeasible_refusal c.args.scheme.now.supply (staged c.args.scheme.now) c.args.plan.now.prices (amount_of c.args.plan.now)) (walk c.args.scheme.now c.args.plan.now) (checked.Infeasible (amount_of c.args.plan.now)) (walk_infeasible c.args.scheme.now c.args.plan.now c.requires.is) (accepted_ok (infeasible_refusal c.args.scheme.now.supply (staged c.args.scheme.now) c.args.plan.now.prices (amount_of c.args.plan.now)) c.in_ok-check_forbidden.field-0 c.check_forbidden.result told c.in_ok-check_forbidden.was)

@@ -1,5 +1,5 @@
 use Rattle.std.proofs.Common.{◌≡◌, map, take}
-use Rattle.np_model.specs.Valid.{periods_of}
+use Rattle.np_model.specs.Scheme.Kinds.{periods_of}
 use Rattle.certificates.proofs.index.last_periods.Given as goal
 
 abbrev pub invariant-loop-flow : goal.invariant-loop-flow

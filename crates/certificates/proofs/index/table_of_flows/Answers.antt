@@ -2,7 +2,7 @@ use Rattle.std.proofs.Common.{◌≡◌, ◌∙◌, None, ℕ, List, take, sym, 
 use Rattle.std.proofs.lemmas.List.{length-map}
 use Rattle.np_model.specs.declared.scheme.Flow.{Flow}
 use Rattle.np_records.specs.Names.{place_of}
-use Rattle.certificates.specs.Claims.{flow_names}
+use Rattle.np_model.specs.Scheme.Names.{flow_names}
 use Rattle.certificates.proofs.NameTables.{absent-before, take-names, get-name}
 use Rattle.certificates.proofs.index.table_of_flows.Goals as goal
 

@@ -1,5 +1,5 @@
 use Rattle.std.proofs.Common.{◌≡◌, take}
-use Rattle.certificates.specs.Claims.{flow_names}
+use Rattle.np_model.specs.Scheme.Names.{flow_names}
 use Rattle.certificates.proofs.index.table_of_flows.Given as goal
 
 abbrev pub invariant-loop-flow : goal.invariant-loop-flow

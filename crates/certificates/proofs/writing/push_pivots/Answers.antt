@@ -2,8 +2,8 @@ use Rattle.std.proofs.Common.{◌∙◌, ◌+◌, ◌≤◌, arith, length, get_
 use Rattle.std.specs.List.{enumerate_from}
 use Rattle.std.proofs.lemmas.List.{get_or_default}
 use Rattle.std.proofs.lemmas.List.FromFn.{length-enumerate_from}
-use Rattle.np_model.specs.declared.plan.Entry.{Entry}
-use Rattle.np_model.specs.declared.plan.Mark.TheVariants as mark
+use Rattle.np_model.specs.declared.log.Entry.{Entry}
+use Rattle.np_model.specs.declared.log.Mark.TheVariants as mark
 use Rattle.certificates.specs.Writing.{pivot_row}
 use Rattle.certificates.proofs.WrittenRecords.{numbered-more, text-all}
 use Rattle.certificates.proofs.writing.push_pivots.Goals as goal

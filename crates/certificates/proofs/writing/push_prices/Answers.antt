@@ -3,7 +3,7 @@ use Rattle.std.specs.List.{All, enumerate_from}
 use Rattle.std.proofs.lemmas.List.{take_all}
 use Rattle.std.proofs.lemmas.List.Elements.{All-more}
 use Rattle.std.proofs.lemmas.List.FromFn.{length-enumerate_from}
-use Rattle.np_frac.specs.Lowest.{Fits}
+use Rattle.np_frac.specs.Fits.{Fits}
 use Rattle.certificates.specs.Writing.{price_row}
 use Rattle.certificates.proofs.WrittenRecords.{numbered-more, text-all}
 use Rattle.certificates.proofs.writing.push_prices.Goals as goal

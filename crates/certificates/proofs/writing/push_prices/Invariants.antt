@@ -1,6 +1,6 @@
 use Rattle.std.proofs.Common.{◌≡◌, ◌++◌, map, take}
 use Rattle.std.specs.List.{All, enumerate_from}
-use Rattle.np_frac.specs.Lowest.{Fits}
+use Rattle.np_frac.specs.Fits.{Fits}
 use Rattle.np_records.specs.Texts.{records_text}
 use Rattle.certificates.specs.Writing.{price_row}
 use Rattle.certificates.proofs.writing.push_prices.Given as goal

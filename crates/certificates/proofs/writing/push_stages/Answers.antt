@@ -3,8 +3,8 @@ use Rattle.std.specs.List.{All, zip}
 use Rattle.std.proofs.lemmas.List.{take_all}
 use Rattle.std.proofs.lemmas.List.Elements.{All-more}
 use Rattle.std.proofs.lemmas.Slice.Zip.{length-zip}
-use Rattle.np_frac.specs.Lowest.{Fits}
-use Rattle.certificates.specs.Claims.{flow_names}
+use Rattle.np_frac.specs.Fits.{Fits}
+use Rattle.np_model.specs.Scheme.Names.{flow_names}
 use Rattle.certificates.specs.Writing.{staged_row}
 use Rattle.certificates.proofs.WrittenRecords.{paired-more, text-all}
 use Rattle.certificates.proofs.writing.push_stages.Goals as goal

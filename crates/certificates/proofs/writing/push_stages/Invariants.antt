@@ -1,8 +1,8 @@
 use Rattle.std.proofs.Common.{◌≡◌, ◌++◌, map, take}
 use Rattle.std.specs.List.{All, zip}
-use Rattle.np_frac.specs.Lowest.{Fits}
+use Rattle.np_frac.specs.Fits.{Fits}
 use Rattle.np_records.specs.Texts.{records_text}
-use Rattle.certificates.specs.Claims.{flow_names}
+use Rattle.np_model.specs.Scheme.Names.{flow_names}
 use Rattle.certificates.specs.Writing.{staged_row}
 use Rattle.certificates.proofs.writing.push_stages.Given as goal
 

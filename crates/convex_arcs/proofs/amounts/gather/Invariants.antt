@@ -1,7 +1,8 @@
+use Rattle.np_frac.specs.Exact.{◌▷◌}
 use Rattle.std.proofs.Common.{◌≡◌, ◌++◌, Ok, length, drop}
 use Rattle.std.specs.Prelude.{sum_by}
 use Rattle.period_expand.specs.Expansion.{segment_count}
-use Rattle.convex_arcs.specs.Gathered.{◌▷◌, gathered}
+use Rattle.convex_arcs.specs.Gathered.{gathered}
 use Rattle.convex_arcs.proofs.amounts.gather.Given as goal
 
 abbrev pub invariant-loop-staged : goal.invariant-loop-staged

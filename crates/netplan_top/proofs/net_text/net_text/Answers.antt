@@ -1,7 +1,7 @@
 use Rattle.std.proofs.Common.{rules, sym, ◌≡◌, ◌∙◌, [], length, codes}
 use Rattle.std.proofs.lemmas.Result.{IfOk-weaker}
 use Rattle.convex_arcs.specs.Segments.{flat_arcs}
-use Rattle.np_model.specs.Schemes.{staged}
+use Rattle.np_model.specs.Scheme.Plans.{staged}
 use Rattle.netplan_top.specs.NetText.{net_text}
 use Rattle.netplan_top.proofs.NetFacts.{whole-net}
 use Rattle.netplan_top.proofs.net_text.net_text.Goals as goal

@@ -1,5 +1,5 @@
 use Rattle.std.proofs.Common.{ap, ◌≡◌, ◌∙◌, ◌<◌, length}
-use Rattle.np_model.specs.Stages.{Stage}
+use Rattle.np_model.specs.Scheme.Segments.{Stage}
 use Rattle.netplan_top.specs.NetText.{arc_record}
 use Rattle.netplan_top.proofs.NetFacts.{first-one, band-more}
 use Rattle.netplan_top.proofs.net_text.push_segments.Goals as goal

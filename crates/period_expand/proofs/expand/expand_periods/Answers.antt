@@ -1,6 +1,6 @@
 use Rattle.std.proofs.Common.{rules, length, ◌≡◌}
 use Rattle.std.specs.List.{filter_map, enumerate_from}
-use Rattle.np_model.specs.Schemes.{stage_of, staged}
+use Rattle.np_model.specs.Scheme.Plans.{stage_of, staged}
 use Rattle.period_expand.proofs.Sound.{is_expansion}
 use Rattle.period_expand.proofs.Grows.{periods_more}
 use Rattle.period_expand.proofs.expand.expand_periods.Goals as goal

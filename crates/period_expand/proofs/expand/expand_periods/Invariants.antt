@@ -1,6 +1,6 @@
 use Rattle.std.proofs.Common.{◌≡◌, length}
 use Rattle.std.specs.List.{filter_map, flat_map, enumerate_from, range_with_len}
-use Rattle.np_model.specs.Schemes.{stage_of}
+use Rattle.np_model.specs.Scheme.Plans.{stage_of}
 use Rattle.period_expand.proofs.expand.expand_periods.Given as goal
 
 abbrev pub invariant-loop-before : goal.invariant-loop-before

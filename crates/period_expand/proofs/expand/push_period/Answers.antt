@@ -1,6 +1,6 @@
 use Rattle.std.proofs.Common.{rules, refl, ◌≡◌, ◌++◌, [], length}
 use Rattle.std.specs.List.{cons_option}
-use Rattle.np_model.specs.Schemes.{stage_of}
+use Rattle.np_model.specs.Scheme.Plans.{stage_of}
 use Rattle.period_expand.proofs.Grows.{flows_more, pushed, not_pushed}
 use Rattle.period_expand.proofs.expand.push_period.Goals as goal
 use Rattle.period_expand.proofs.expand.push_period.Goals.{in-Some+in_ok-push-in-Some, in-None}

@@ -1,6 +1,6 @@
 use Rattle.std.proofs.Common.{◌≡◌, ◌++◌, length, take}
 use Rattle.std.specs.List.{filter_map, enumerate_from}
-use Rattle.np_model.specs.Schemes.{stage_of}
+use Rattle.np_model.specs.Scheme.Plans.{stage_of}
 use Rattle.period_expand.proofs.expand.push_period.Given as goal
 
 abbrev pub invariant-loop-number : goal.invariant-loop-number

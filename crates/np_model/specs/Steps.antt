@@ -1,0 +1,2 @@
+-- What only steps of the tests of schemes and plans need.
+pub mod Tests
