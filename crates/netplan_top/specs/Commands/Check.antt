@@ -1,5 +1,5 @@
 -- What `check` says of an input: a network text with a plan text behind it.
-use Rattle.std.specs.Prelude.{◌≡◌, ℕ, ◌⊎◌, Option, Some, None, Ok, Err, List, drop}
+use Rattle.std.specs.Prelude.{◌≡◌, ℕ, ◌⊎◌, Option, Some, None, Ok, Err, List, length, drop}
 use Rattle.np_frac.specs.declared.frac.Past.{Past}
 use Rattle.np_records.specs.Records.{records_of}
 use Rattle.np_model.specs.declared.rows.CheckRow.{CheckRow}
@@ -7,9 +7,11 @@ use Rattle.np_model.specs.declared.plan.Plan.{Plan}
 use Rattle.np_model.specs.declared.scheme.Scheme.{Scheme}
 use Rattle.net_csv.specs.Grammar.{read_records, IsSchemeOf}
 use Rattle.net_csv.specs.declared.refused.Tail.TheVariants as tail
+use Rattle.net_csv.specs.Writing.{rows_of}
+use Rattle.certificates.specs.Reading.{IsReadAs}
 use Rattle.certificates.specs.Claims.{outline_of}
 use Rattle.certificates.specs.Grammar.{plan_fault, IsPlanOf}
-use Rattle.certificates.specs.Words.{code_word as plan_code_word}
+use Rattle.certificates.specs.Words.{plan_code_word}
 use Rattle.certificates.specs.declared.refused.PlanCode.{PlanCode}
 use Rattle.cert_checker.specs.Walk.{walk}
 use Rattle.cert_checker.specs.Proves.{Proves}
@@ -44,6 +46,12 @@ pub record IsPlanFault (input : List ℕ) (place : ℕ) (code : PlanCode) : Type
   pub count : ℕ
   pub network : HasNetwork input scheme count
   pub fault : plan_fault count (outline_of scheme) (rest_of input count) ≡ Some (place, code)
+
+-- the records of this scheme stand first and are read as its own, and those behind them as this plan
+pub record IsReadBehind (scheme : Scheme) (rows : List (List (List ℕ))) (plan : Plan) : Type 0 where
+  pub network : read_records tail.Plan rows ≡ Ok (length (rows_of scheme))
+  pub scheme_is : IsSchemeOf rows scheme
+  pub rest : IsReadAs scheme (drop (length (rows_of scheme)) rows) plan
 
 -- ---- what is said of a scheme and a plan, and the text that says it
 

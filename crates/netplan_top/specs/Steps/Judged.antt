@@ -5,7 +5,7 @@ use Rattle.np_model.specs.declared.scheme.Scheme.{Scheme}
 use Rattle.np_model.specs.Scheme.Fits.{PlanFits}
 use Rattle.net_csv.specs.Words.{code_word}
 use Rattle.net_csv.specs.declared.refused.Tail.TheVariants as tail
-use Rattle.certificates.specs.Words.{code_word as plan_code_word}
+use Rattle.certificates.specs.Words.{plan_code_word}
 use Rattle.cert_checker.specs.declared.answer.CheckRefusal.{CheckRefusal}
 use Rattle.cert_checker.specs.declared.answer.CheckRefusal.TheVariants as refusal
 use Rattle.netplan_top.specs.Texts.Frame.{refused_text}

@@ -1,8 +1,8 @@
 use Rattle.std.proofs.Common.{ap, ◌≡◌, ◌∙◌, ◌<◌, length}
 use Rattle.np_model.specs.Scheme.Segments.{Stage}
-use Rattle.netplan_top.specs.NetText.{arc_record}
+use Rattle.netplan_top.specs.Texts.Network.{arc_record}
 use Rattle.netplan_top.proofs.NetFacts.{first-one, band-more}
-use Rattle.netplan_top.proofs.net_text.push_segments.Goals as goal
+use Rattle.netplan_top.proofs.texts.network.push_segments.Goals as goal
 
 pub loop-before-init : goal.loop-before-init
 loop-before-init c =

@@ -3,8 +3,8 @@ use Rattle.std.specs.Prelude.{sum_by}
 use Rattle.std.specs.List.{flat_map, enumerate_from}
 use Rattle.np_records.specs.Texts.{records_text}
 use Rattle.period_expand.specs.Expansion.{segment_count}
-use Rattle.netplan_top.specs.NetText.{arc_record, numbered_segments}
-use Rattle.netplan_top.proofs.net_text.push_arcs.Given as goal
+use Rattle.netplan_top.specs.Texts.Network.{arc_record, numbered_segments}
+use Rattle.netplan_top.proofs.texts.network.push_arcs.Given as goal
 
 abbrev pub invariant-loop-stage : goal.invariant-loop-stage
 invariant-loop-stage l = record {

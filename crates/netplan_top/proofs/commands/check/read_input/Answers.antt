@@ -1,7 +1,7 @@
 use Rattle.net_csv.specs.declared.refused.Tail.TheVariants as tail
 use Rattle.np_records.specs.Records.{records_of}
 use Rattle.netplan_top.proofs.InputFacts.{stop-plan}
-use Rattle.netplan_top.proofs.input.read_input.Goals as goal
+use Rattle.netplan_top.proofs.commands.check.read_input.Goals as goal
 
 pub read_plan-requires-clause-skipped : goal.read_plan-requires-clause-skipped
 read_plan-requires-clause-skipped c = c.records_are_there.ensures tail.Plan (records_of c.args.bytes.now) c.in-Ok.read.1 c.in-Ok.ensures.0

@@ -2,9 +2,9 @@ use Rattle.std.proofs.Common.{rules, sym, ◌≡◌, ◌∙◌, [], length, code
 use Rattle.std.proofs.lemmas.Result.{IfOk-weaker}
 use Rattle.convex_arcs.specs.Segments.{flat_arcs}
 use Rattle.np_model.specs.Scheme.Plans.{staged}
-use Rattle.netplan_top.specs.NetText.{net_text}
+use Rattle.netplan_top.specs.Texts.Network.{net_text}
 use Rattle.netplan_top.proofs.NetFacts.{whole-net}
-use Rattle.netplan_top.proofs.net_text.net_text.Goals as goal
+use Rattle.netplan_top.proofs.texts.network.net_text.Goals as goal
 
 written : (c : goal.After-drop-expanded-3) → c.push.new.self.bytes ≡ net_text c.args.scheme.now
 written c =

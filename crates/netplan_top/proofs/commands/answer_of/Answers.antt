@@ -1,4 +1,4 @@
-use Rattle.netplan_top.proofs.answer.answer_of.Goals as goal
+use Rattle.netplan_top.proofs.commands.answer_of.Goals as goal
 
 pub returns-in-Check : goal.returns-in-Check
 returns-in-Check c = rw c.in-Check.is c.check_answer.ensures

@@ -1,11 +1,12 @@
 use Rattle.std.proofs.Common.{◌≡◌}
 use Rattle.std.proofs.lemmas.Result.{IfOk-weaker}
-use Rattle.netplan_top.specs.Answers.{IsExpandAnswer, IsStopped}
-use Rattle.netplan_top.specs.NetText.{net_text}
-use Rattle.netplan_top.specs.Stops.{network_stop}
-use Rattle.netplan_top.specs.declared.answer.Answer.{Answer}
+use Rattle.netplan_top.specs.Commands.Expand.{IsExpandAnswer}
+use Rattle.netplan_top.specs.Steps.Judged.{IsStopped}
+use Rattle.netplan_top.specs.Texts.Network.{net_text}
+use Rattle.netplan_top.specs.Steps.Stops.{network_stop}
+use Rattle.netplan_top.specs.declared.commands.Answer.{Answer}
 use Rattle.netplan_top.proofs.AnswerFacts.{expand_made, expand_stopped}
-use Rattle.netplan_top.proofs.answer.expand_answer.Goals as goal
+use Rattle.netplan_top.proofs.commands.expand.expand_answer.Goals as goal
 
 pub returns-in-Ok : goal.returns-in-Ok
 returns-in-Ok c =

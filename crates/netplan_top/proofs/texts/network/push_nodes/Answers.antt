@@ -1,7 +1,7 @@
 use Rattle.std.proofs.Common.{◌∙◌, ◌<◌, arith, length}
-use Rattle.netplan_top.specs.NetText.{node_record}
+use Rattle.netplan_top.specs.Texts.Network.{node_record}
 use Rattle.netplan_top.proofs.NetFacts.{one-more}
-use Rattle.netplan_top.proofs.net_text.push_nodes.Goals as goal
+use Rattle.netplan_top.proofs.texts.network.push_nodes.Goals as goal
 
 pub loop-number-preserved : goal.loop-number-preserved
 loop-number-preserved c =

@@ -1,9 +1,9 @@
 use Rattle.std.proofs.Common.{refl, sym, ◌<◌, arith, length}
 use Rattle.std.proofs.lemmas.List.Sums.{sum_by_more}
 use Rattle.period_expand.specs.Expansion.{segment_count}
-use Rattle.netplan_top.specs.NetText.{arc_record}
+use Rattle.netplan_top.specs.Texts.Network.{arc_record}
 use Rattle.netplan_top.proofs.NetFacts.{stage-more}
-use Rattle.netplan_top.proofs.net_text.push_arcs.Goals as goal
+use Rattle.netplan_top.proofs.texts.network.push_arcs.Goals as goal
 
 pub loop-stage-preserved : goal.loop-stage-preserved
 loop-stage-preserved c =
