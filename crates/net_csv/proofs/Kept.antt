@@ -3,7 +3,7 @@ use Rattle.std.specs.Prelude.{◌≡◌, ℕ, suc, zero, ◌+◌, ◌-◌, ◌*�
 use Rattle.std.specs.List.{All, list_all}
 use Rattle.std.specs.Option.{option_map_or, option_and_then}
 use Rattle.std.specs.Str.{bytes_eq}
-use Rattle.std.proofs.Common.{refl, subst, sym, ap, ◌∙◌, inl, inr, arith}
+use Rattle.std.proofs.Common.{refl, sym, ap, ◌∙◌, inl, inr, arith}
 use Rattle.std.proofs.lemmas.Bool.{and_parts, cases_Bool}
 use Rattle.std.proofs.lemmas.Bool.Decides.{nat_tests}
 use Rattle.std.proofs.lemmas.List.{length_push, map-append}
@@ -23,7 +23,7 @@ use Rattle.np_model.specs.declared.scheme.Flow.{Flow}
 use Rattle.np_model.specs.declared.scheme.FlowKind.{FlowKind}
 use Rattle.np_model.specs.declared.scheme.FlowKind.TheVariants.{Link, Hold, Drain, Feed}
 use Rattle.np_model.specs.Network.Arcs.{IsAtMost, IsUnder, is_at_most, is_under, is_finite}
-use Rattle.np_model.specs.Scheme.Segments.{IsConvexFrom, AreReached}
+use Rattle.np_model.specs.Scheme.Segments.{last_slope, IsConvexFrom, AreReached}
 use Rattle.np_model.specs.Scheme.Names.{AreNames, is_name}
 use Rattle.np_model.specs.Scheme.Valid.{IsSound, is_amount_or_infinite, has_amount_gain}
 use Rattle.np_model.specs.Scheme.Kinds.{JoinsNodes, HasGain}
@@ -37,8 +37,8 @@ use Rattle.net_csv.specs.Faults.{has_finite_end, present_slope, record_fault, ki
 use Rattle.net_csv.specs.Steps.Tables.{Tables, no_tables, AreKept, IsGiven, supply_of, with_record, with_node, with_supply, with_flow, with_piece, band_added, banded, plain_flow, numbers_of}
 use Rattle.np_frac.proofs.TextTests.{amount-reads}
 use Rattle.np_records.proofs.FaultFacts.{or-first, or-rest, unless-none}
+use Rattle.net_csv.proofs.LastSlopes.{last-of}
 use Rattle.net_csv.proofs.Fine.{used-some}
-use Rattle.net_csv.proofs.Steps.{there}
 use Rattle.net_csv.proofs.Places.{place-within, places-differ, distinct-push, distinct-none}
 
 -- ---- amounts and bounds
@@ -72,15 +72,6 @@ wide Infinite h = tt
 
 -- ---- bands
 
--- what the last band tells does not come from the first of two
-last-of : {A : Type 0} (f : Band → A) (a c : Band) (rest : List Band) (d e : A)
-    → option_map_or f (slice_get (a ∷ c ∷ rest) (length (a ∷ c ∷ rest) - 1)) d ≡ option_map_or f (slice_get (c ∷ rest) (length (c ∷ rest) - 1)) e
-last-of f a c rest d e =
-    let x : suc (suc (length rest)) - 1 ≡ suc (length rest) = omega arith in
-    let y : suc (length rest) - 1 ≡ length rest = omega arith in
-    let last = there (c ∷ rest) (length rest) (omega arith) in
-    rw (x, y, last.1) refl
-
 reached-push : (end : Upper) (bands : List Band) (b : Band) → AreReached end bands → is_finite (option_map_or (λ band. band.width) (slice_get bands (length bands - 1)) end) ≡ true
     → AreReached end (bands ++ b ∷ [])
 reached-push (Finite u) [] b h e = tt
@@ -89,11 +80,9 @@ reached-push Infinite (a ∷ rest) b h e = h
 reached-push (Finite u) (a ∷ []) b h e = reached-push a.width [] b tt e
 reached-push (Finite u) (a ∷ c ∷ rest) b h e = reached-push a.width (c ∷ rest) b h (ap is_finite (sym (last-of (λ band. band.width) a c rest (Finite u) a.width)) ∙ e)
 
-convex-push : (slope : Ratio) (bands : List Band) (b : Band) → IsConvexFrom slope bands → option_map_or (λ band. band.slope) (slice_get bands (length bands - 1)) slope ≤ᵣ b.slope
-    → IsUnder zero_ratio b.width → IsConvexFrom slope (bands ++ b ∷ [])
+convex-push : (slope : Ratio) (bands : List Band) (b : Band) → IsConvexFrom slope bands → last_slope slope bands ≤ᵣ b.slope → IsUnder zero_ratio b.width → IsConvexFrom slope (bands ++ b ∷ [])
 convex-push slope [] b h e w = (e, w, tt)
-convex-push slope (a ∷ []) b h e w = (h.0, h.1, convex-push a.slope [] b tt e w)
-convex-push slope (a ∷ c ∷ rest) b h e w = (h.0, h.1, convex-push a.slope (c ∷ rest) b h.2 (subst (λ (x : Ratio). x ≤ᵣ b.slope) (last-of (λ band. band.slope) a c rest slope a.slope) e) w)
+convex-push slope (a ∷ rest) b h e w = (h.0, h.1, convex-push a.slope rest b h.2 e w)
 
 -- ---- a flow
 

@@ -4,6 +4,7 @@ pub mod Places
 pub mod RowKinds
 mod FlowLists
 mod Steps
+mod LastSlopes
 mod Fine
 mod BeforeFirst
 mod FirstPlaces

@@ -18,6 +18,7 @@ use Rattle.np_model.specs.Network.Arcs.{IsUnder, is_finite}
 use Rattle.np_model.specs.Scheme.Segments.{IsConvexFrom, AreReached}
 use Rattle.np_model.specs.Scheme.Valid.{IsSound, is_amount_or_infinite, expanded_arcs}
 use Rattle.np_model.specs.Scheme.Names.{is_name}
+use Rattle.np_model.specs.Scheme.Names.{flow_names}
 use Rattle.np_model.specs.Scheme.Kinds.{periods_of}
 use Rattle.net_csv.specs.Faults.{arcs_fault, band_fault, piece_fault, has_finite_end, present_slope, last_band}
 use Rattle.net_csv.specs.declared.given.Given.{Given}
@@ -27,6 +28,7 @@ use Rattle.net_csv.proofs.AmountTexts.{amount_text-value}
 use Rattle.net_csv.proofs.WrittenNames.{place-new, place-last}
 use Rattle.net_csv.proofs.WrittenFields.{amount-fine, upper-fine, upper-value, new-fine, used-fine, wide, not_below}
 use Rattle.net_csv.proofs.WrittenFlows.{and-true, bare, flow-step, amounts-each}
+use Rattle.net_csv.proofs.LastSlopes.{last_slope-push}
 use Rattle.net_csv.proofs.Runs.{IsStep, Runs, runs-step, runs-append}
 
 abbrev pub with_flows : Tables → List Flow → ℕ → Tables
@@ -99,18 +101,15 @@ runs-bands t (b ∷ bs) arcs before flow place reached convex amounts few =
     let here : IsBandOf flow b = record { width = numbers.0; slope = numbers.1; reached = end.0; wide = convex.1; convex = convex.0 } in
     let step = band-step t arcs before flow b place here (omega arith) in
     let last = last-pushed flow b in
-    let rest = runs-bands t bs (arcs + k) before (banded flow b) place (rw last end.1) (rw last convex.2) each.1 (omega arith) in
+    let rest = runs-bands t bs (arcs + k) before (banded flow b) place (rw last end.1) (rw (last_slope-push flow.cost flow.bands b) convex.2) each.1 (omega arith) in
     runs-step _ _ _ _ _ step.0 step.1 (rw (append_assoc flow.bands (b ∷ []) bs, count) at rest)
 
 -- ---- all flows
 
-abbrev pub flow_names_of : List Flow → List (List ℕ)
-flow_names_of flows = map (λ flow. flow.name) flows
-
 -- the tables of these flows
 abbrev pub flow_tables : ℕ → List (List ℕ) → List Given → List Flow → Tables
 flow_tables periods nodes supplies flows =
-    record { periods = periods; nodes = nodes; names = flow_names_of flows; supplies = supplies; flows = flows; arcs = expanded_arcs periods flows }
+    record { periods = periods; nodes = nodes; names = flow_names flows; supplies = supplies; flows = flows; arcs = expanded_arcs periods flows }
 
 -- the arcs of one flow
 abbrev arcs_of : ℕ → Flow → ℕ
@@ -123,16 +122,16 @@ few-first periods done left flow few =
     omega arith
 
 -- the name of a flow among those before it
-name-new : (done left : List Flow) (flow : Flow) → IsDistinct bytes_eq (flow_names_of (done ++ flow ∷ left)) → place_of (flow_names_of done) flow.name ≡ None
-name-new done left flow d = place-new (flow_names_of done) (flow_names_of left) flow.name (rw (map-append (λ (f : Flow). f.name) done (flow ∷ left)) at d)
+name-new : (done left : List Flow) (flow : Flow) → IsDistinct bytes_eq (flow_names (done ++ flow ∷ left)) → place_of (flow_names done) flow.name ≡ None
+name-new done left flow d = place-new (flow_names done) (flow_names left) flow.name (rw (map-append (λ (f : Flow). f.name) done (flow ∷ left)) at d)
 
-name-last : (done left : List Flow) (flow : Flow) → IsDistinct bytes_eq (flow_names_of (done ++ flow ∷ left)) → place_of (flow_names_of done ++ flow.name ∷ []) flow.name ≡ Some (length done)
+name-last : (done left : List Flow) (flow : Flow) → IsDistinct bytes_eq (flow_names (done ++ flow ∷ left)) → place_of (flow_names done ++ flow.name ∷ []) flow.name ≡ Some (length done)
 name-last done left flow d =
-    place-last (flow_names_of done) (flow_names_of left) flow.name (rw (map-append (λ (f : Flow). f.name) done (flow ∷ left)) at d)
+    place-last (flow_names done) (flow_names left) flow.name (rw (map-append (λ (f : Flow). f.name) done (flow ∷ left)) at d)
     ∙ ap (λ (k : ℕ). Some k) (length-map done (λ (f : Flow). f.name))
 
 runs-flow : (periods : ℕ) (nodes : List (List ℕ)) (supplies : List Given) (done left : List Flow) (flow : Flow) → IsDistinct bytes_eq nodes → IsSound (length nodes) flow
-    → is_name flow.name ≡ true → IsDistinct bytes_eq (flow_names_of (done ++ flow ∷ left)) → expanded_arcs periods (done ++ flow ∷ left) ≤ 100000
+    → is_name flow.name ≡ true → IsDistinct bytes_eq (flow_names (done ++ flow ∷ left)) → expanded_arcs periods (done ++ flow ∷ left) ≤ 100000
     → Runs (flow_tables periods nodes supplies done) (flow_rows nodes flow) (flow_tables periods nodes supplies (done ++ flow ∷ []))
 runs-flow periods nodes supplies done left flow d sound name distinct few =
     let t = flow_tables periods nodes supplies done in
@@ -141,15 +140,15 @@ runs-flow periods nodes supplies done left flow d sound name distinct few =
     let each : arcs_of periods flow ≡ k + length flow.bands * k = omega arith in
     let head = flow-step t flow d sound (new-fine _ flow.name name (name-new done left flow distinct)) (room (t.arcs + k) (omega arith)) in
     let named = name-last done left flow distinct in
-    let bands = runs-bands (record t { names = flow_names_of done ++ flow.name ∷ [] }) flow.bands (t.arcs + k) done (bare flow) named sound.reached sound.convex (amounts-each flow sound.amounts).bands (omega arith) in
+    let bands = runs-bands (record t { names = flow_names done ++ flow.name ∷ [] }) flow.bands (t.arcs + k) done (bare flow) named sound.reached sound.convex (amounts-each flow sound.amounts).bands (omega arith) in
     let arcs : t.arcs + k + length flow.bands * k ≡ expanded_arcs periods (done ++ flow ∷ []) = omega (arith, sum_by_push (arcs_of periods) done flow) in
     let names = map_push (λ (f : Flow). f.name) done flow in
-    let end : with_flows (record t { names = flow_names_of done ++ flow.name ∷ [] }) (done ++ flow ∷ []) (t.arcs + k + length flow.bands * k) ≡ flow_tables periods nodes supplies (done ++ flow ∷ []) =
+    let end : with_flows (record t { names = flow_names done ++ flow.name ∷ [] }) (done ++ flow ∷ []) (t.arcs + k + length flow.bands * k) ≡ flow_tables periods nodes supplies (done ++ flow ∷ []) =
     rw (arcs, names) refl in
     runs-step _ _ _ _ _ head.0 head.1 (subst (λ (u : Tables). Runs (flow_added t (bare flow)) (map (piece_row flow.name) flow.bands) u) end bands)
 
 pub runs-flows : (periods : ℕ) (nodes : List (List ℕ)) (supplies : List Given) (left done : List Flow) → IsDistinct bytes_eq nodes → AllByRecursion (IsSound (length nodes)) left
-    → AllByRecursion (λ flow. is_name flow.name ≡ true) left → IsDistinct bytes_eq (flow_names_of (done ++ left)) → expanded_arcs periods (done ++ left) ≤ 100000
+    → AllByRecursion (λ flow. is_name flow.name ≡ true) left → IsDistinct bytes_eq (flow_names (done ++ left)) → expanded_arcs periods (done ++ left) ≤ 100000
     → Runs (flow_tables periods nodes supplies done) (flat_map (flow_rows nodes) left) (flow_tables periods nodes supplies (done ++ left))
 runs-flows periods nodes supplies [] done d sound names distinct few = rw (append-nil done) refl
 runs-flows periods nodes supplies (f ∷ fs) done d sound names distinct few =

@@ -9,6 +9,7 @@ use Rattle.np_records.specs.Records.{field_of}
 use Rattle.np_model.specs.declared.scheme.Band.{Band}
 use Rattle.np_model.specs.declared.scheme.Flow.{Flow}
 use Rattle.np_model.specs.Scheme.Kinds.{periods_of}
+use Rattle.np_model.specs.Scheme.Segments.{last_slope}
 use Rattle.np_model.specs.Scheme.Valid.{expanded_arcs}
 use Rattle.net_csv.specs.declared.refused.Code.{Code}
 use Rattle.net_csv.specs.declared.refused.Code.TheVariants as code
@@ -30,7 +31,7 @@ has_finite_end flow = is_finite (option_map_or (λ band. band.width) (last_band 
 
 -- the slope of the last band, or the cost where there is none
 abbrev pub present_slope : Flow → Ratio
-present_slope flow = option_map_or (λ band. band.slope) (last_band flow) flow.cost
+present_slope flow = last_slope flow.cost flow.bands
 
 -- ---- room
 

@@ -8,7 +8,7 @@ ghost use Rattle.np_model.specs.Scheme.Kinds.{periods_of};
 ghost use Rattle.net_csv.specs.declared.refused.Stop.{Stop};
 ghost use Rattle.np_records.specs.Faults.{Reads};
 ghost use Rattle.net_csv.specs.Faults.{node_fault, supply_fault, head_fault, flow_fault, piece_fault, band_fault, record_fault, has_finite_end, present_slope};
-ghost use Rattle.net_csv.specs.Steps.Tables.{HasRoom, IsMadeOf, IsReady, TakesRecord, head_of, no_tables, plain_flow, flow_added, band_added, banded, with_node, with_supply, with_flow, with_piece, with_record};
+ghost use Rattle.net_csv.specs.Steps.Tables.{HasRoom, IsMadeOf, IsReady, TakesRecord, head_of, no_tables, plain_flow, band_added, banded, with_node, with_supply, with_flow, with_piece, with_record};
 
 use crate::fields::{amount, fields, new_name, period, upper, used_name};
 use crate::given::Given;

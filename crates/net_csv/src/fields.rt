@@ -1,17 +1,15 @@
 //! The fields of network texts.
 
-ghost use Rattle.std.specs.Prelude.{◌≡◌, ◌<◌, ◌≤◌, ◌&&◌, nat_le, nat_lt, not, true, IfOk, IfSome, IsTrue, length, codes, Some, None, is_some, if◌then◌else◌};
+ghost use Rattle.std.specs.Prelude.{◌≡◌, ◌<◌, true, IfOk, length, Some, None};
 ghost use Rattle.std.specs.List.{list_all};
-ghost use Rattle.np_frac.specs.Ratio.{zero_ratio};
 ghost use Rattle.np_frac.specs.Text.{number};
 ghost use Rattle.np_frac.specs.Amount.{amount_of, is_amount};
-ghost use Rattle.np_records.specs.Names.{place_of, place_in};
+ghost use Rattle.np_records.specs.Names.{place_in};
 ghost use Rattle.std.specs.Char.{is_ascii_graphic};
 ghost use Rattle.np_model.specs.Scheme.Names.{is_name};
 ghost use Rattle.np_model.specs.Scheme.Valid.{is_amount_or_infinite};
 ghost use Rattle.csv.specs.Records.{fields_of};
 ghost use Rattle.np_records.specs.Faults.{Reads};
-ghost use Rattle.np_records.specs.Rows.{is_period};
 ghost use Rattle.net_csv.specs.Fields.{amount_fault, upper_fault, upper_of, gain_fault, period_fault, period_of, new_fault, used_fault, fields_fault};
 
 use crate::refused::Code;

@@ -1,6 +1,6 @@
 //! What a flow joins, and its gain, as its record tells.
 
-ghost use Rattle.std.specs.Prelude.{◌≡◌, ◌≤◌, ◌&&◌, IfOk, length, codes};
+ghost use Rattle.std.specs.Prelude.{◌≡◌, ◌≤◌, ◌&&◌, length};
 ghost use Rattle.csv.specs.Records.{fields_of};
 ghost use Rattle.np_records.specs.Faults.{Reads};
 ghost use Rattle.np_records.specs.Rows.{is_kind};

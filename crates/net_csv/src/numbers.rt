@@ -1,10 +1,8 @@
 //! The numbers of a flow, and whether they fit each other.
 
-ghost use Rattle.std.specs.Prelude.{◌≡◌, ◌<◌, ◌≤◌, ◌+◌, ◌*◌, ◌&&◌, true, IfOk, nat_le, not, length};
+ghost use Rattle.std.specs.Prelude.{◌≡◌, ◌<◌, ◌≤◌, ◌+◌, ◌*◌, not};
 ghost use Rattle.csv.specs.Records.{fields_of};
-ghost use Rattle.np_frac.specs.Amount.{is_amount};
 ghost use Rattle.np_model.specs.Scheme.Kinds.{periods_of};
-ghost use Rattle.np_model.specs.Scheme.Valid.{is_amount_or_infinite};
 ghost use Rattle.net_csv.specs.declared.refused.Code.TheVariants as code;
 ghost use Rattle.np_records.specs.Faults.{Reads, unless};
 ghost use Rattle.np_model.specs.Network.Arcs.{is_at_most};

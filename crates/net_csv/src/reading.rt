@@ -1,6 +1,6 @@
 //! Reading the records of a network text.
 
-ghost use Rattle.std.specs.Prelude.{◌≡◌, ◌≤◌, ◌<◌, ◌+◌, ◌-◌, ◌^◌, IfOk, MatchResult, length, drop};
+ghost use Rattle.std.specs.Prelude.{◌≤◌, ◌<◌, ◌+◌, ◌-◌, ◌^◌, IfOk, MatchResult, length};
 ghost use Rattle.csv.specs.Records.{fields_of};
 ghost use Rattle.np_frac.specs.Text.{number};
 ghost use Rattle.np_records.specs.Records.{field_of, records_of};

@@ -1,6 +1,6 @@
 //! The supply of a scheme, from the amounts that records give.
 
-ghost use Rattle.std.specs.Prelude.{◌≡◌, ◌*◌, ◌<◌, ◌≤◌, ◌∷◌, [], List, IfOk, map, length};
+ghost use Rattle.std.specs.Prelude.{◌≡◌, ◌*◌, ◌<◌, ◌≤◌, ◌∷◌, List, IfOk, map};
 ghost use Rattle.std.specs.List.{All, range_with_len};
 ghost use Rattle.net_csv.specs.declared.given.Given.{Given as TheGiven};
 ghost use Rattle.net_csv.specs.Network.{supply_from};

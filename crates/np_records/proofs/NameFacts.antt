@@ -13,7 +13,7 @@ use Rattle.indexmap.specs.IndexSet.{insert_key}
 use Rattle.np_records.specs.Names.{place_of}
 
 module _ {X : Type 0} (p : X → Bool) where
-  -- the first place at which p passes
+  -- the first place at which p holds
   abbrev first : List X → Option ℕ
   first [] = None
   first (x ∷ xs) = if p x then Some 0 else option_map (λ i. i + 1) (first xs)

@@ -1,6 +1,6 @@
 //! The fields that network texts and plan texts share.
 
-ghost use Rattle.std.specs.Prelude.{◌≡◌, ◌<◌, ◌^◌, IfSome, Some, None, if◌then◌else◌};
+ghost use Rattle.std.specs.Prelude.{◌≡◌, ◌<◌, Some, None, if◌then◌else◌};
 ghost use Rattle.csv.specs.Records.{fields_of};
 ghost use Rattle.np_frac.specs.Text.{number};
 ghost use Rattle.np_records.specs.Rows.{is_kind, whole_in, is_period};

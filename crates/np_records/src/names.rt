@@ -1,6 +1,6 @@
 //! Names, numbered in the order in which they were defined.
 
-ghost use Rattle.std.specs.Prelude.{◌≡◌, ◌↔◌, ◌<◌, ◌++◌, ◌∷◌, [], IfSome, IfOk, IsTrue, OnOk, OnErr, length, map, slice_get};
+ghost use Rattle.std.specs.Prelude.{◌≡◌, ◌↔◌, ◌<◌, ◌++◌, ◌∷◌, [], IfSome, IsTrue, OnOk, OnErr, length, map, slice_get};
 ghost use Rattle.np_records.specs.Names.{place_of};
 
 use indexmap::IndexSet;
