@@ -21,7 +21,7 @@ use Rattle.cert_checker.specs.Steps.Parts.{sum_clause}
 use Rattle.cert_checker.specs.Steps.Arcs.{as_stage}
 use Rattle.cert_checker.specs.declared.staged.StagedArc.{StagedArc}
 use Rattle.cert_checker.proofs.Pairs.{bind_same, bind_ok, fold_more}
-use Rattle.cert_checker.specs.Walk.{add_supply, add_flow, outflow_of, with_stage_ends, node_clause, first_refusal, tested, refused_if, reject_node}
+use Rattle.cert_checker.specs.Walk.{add_flow, outflow_of, with_stage_ends, node_clause, first_refusal, tested, refused_if, reject_node}
 
 abbrev pub Running : Type 0
 Running = Result Ratio Past
@@ -120,10 +120,7 @@ balance_more arcs amounts i arc x v old new e h at_arc at_x before after =
 pub balance_end : (arcs : List StagedArc) (amounts : List Ratio) (i : ℕ) (v : ℕ) → length amounts ≡ length arcs → length arcs ≤ i → outflow_of (take i (flows_of arcs amounts)) v ≡ outflow_of (flows_of arcs amounts) v
 balance_end arcs amounts i v e h = ap (λ (z : List (Ends × Ratio)). outflow_of z v) (take_all i (flows_of arcs amounts) (omega (arith, length-flows arcs amounts e)))
 
--- ---- the prices of the nodes, beside their supplies
+-- ---- the prices of the nodes, with their numbers
 
 pub numbered_at : (prices : List Ratio) (v : ℕ) (p : Ratio) → v < length prices → p ≡ get_or prices v p → get_or (enumerate_from 0 prices) v (v, p) ≡ (v, p)
 numbered_at prices v p h e = get_or-enumerate_from 0 prices v (v, p) h ∙ ap₂ {A = ℕ} {B = Ratio} {C = ℕ × Ratio} (λ n q. (n, q)) (omega arith) (sym e)
-
-pub supply_step : (supply : List Ratio) (v : ℕ) (p b running : Ratio) → v < length supply → b ≡ get_or supply v b → times_of p b ▷ plus_of running ≡ add_supply supply (v, p) running
-supply_step supply v p b running h e = ap (λ (q : Ratio). times_of p q ▷ plus_of running) (sym (element_is supply v b zero_ratio h e))

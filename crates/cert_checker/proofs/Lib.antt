@@ -1,6 +1,7 @@
 pub mod Accepts
 pub mod Arcs
 pub mod Balances
+pub mod Ends
 pub mod Exact
 pub mod First
 pub mod Made

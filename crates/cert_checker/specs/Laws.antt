@@ -18,6 +18,10 @@ use Rattle.cert_checker.specs.declared.answer.CheckRefusal.TheVariants as refusa
 abbrev pub WalkProves : Type 0
 WalkProves = (scheme : Scheme) (plan : Plan) (answer : Checked) → PlanFits scheme plan → walk scheme plan ≡ Ok answer → Proves scheme plan answer
 
+-- the walk ends with an answer or with a refusal that lies in the plan, never for want of memory
+abbrev pub WalkEnds : Type 0
+WalkEnds = (scheme : Scheme) (plan : Plan) → ¬ (walk scheme plan ≡ Err refusal.Memory)
+
 -- the walk accepts this, or is refused for an operation that overflows
 abbrev pub AcceptsOrOverflows : Result Checked CheckRefusal → Checked → Type 0
 AcceptsOrOverflows found answer = (found ≡ Ok answer) ⊎ ((row : CheckRow) × (past : Past) × (found ≡ Err (refusal.Past row past)))

@@ -1,9 +1,9 @@
 //! What shows that there is no plan: bounds that are finite where they have to be, and the gap of the prices.
 
-ghost use Rattle.std.specs.Prelude.{◌≡◌, Ok, length, map};
+ghost use Rattle.std.specs.Prelude.{◌≡◌, ◌<◌, Ok, length, map};
 ghost use Rattle.std.specs.List.{All, enumerate_from, fold};
 ghost use Rattle.np_frac.specs.Ratio.{zero_ratio};
-ghost use Rattle.np_frac.specs.Exact.{plus_of, times_of, ◌▷◌};
+ghost use Rattle.np_frac.specs.Exact.{◌▷◌};
 ghost use Rattle.np_model.specs.Network.Arcs.{bound_of, AreNodes};
 ghost use Rattle.cert_checker.specs.Walk.{upper_clause, end_clause, add_supply, add_worth, add_least, gap_of, gap_clause, first_refusal, goes_on_unless};
 ghost use Rattle.cert_checker.specs.Steps.Arcs.{as_stage};
@@ -71,10 +71,11 @@ pub fn check_ends(arcs: &[StagedArc]) -> Result<(), CheckRefusal>
 }
 
 // The running gap with the supply of a node at its price.
-fn add_supply(running: Frac, price: Frac, supply: Frac) -> Result<Frac, Past>
-    ensures { result ≡ times_of price supply ▷ plus_of running }
+fn add_supply(running: Frac, supply: &[Frac], node: usize, price: Frac) -> Result<Frac, Past>
+    requires { node < length supply.now }
+    ensures { result ≡ add_supply supply.now (node, price) running }
 {
-    let worth = price.times(supply)?;
+    let worth = price.times(supply[node])?;
     running.plus(worth)
 }
 
@@ -84,8 +85,8 @@ fn supply_worth(prices: &[Frac], supply: &[Frac]) -> Result<Frac, Past>
     ensures { result ≡ fold (λ running node. running ▷ add_supply supply.now node) (Ok zero_ratio) (enumerate_from 0 prices.now) }
 {
     let mut running = Frac::whole(0);
-    for v in 0..prices.len() {
-        running = add_supply(running, prices[v], supply[v])?;
+    for node in 0..prices.len() {
+        running = add_supply(running, supply, node, prices[node])?;
     }
     Ok(running)
 }

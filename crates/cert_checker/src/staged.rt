@@ -12,8 +12,8 @@ use np_frac::Memory;
 use np_model::{Ends, Flow, FlowKind, Scheme};
 use std::alloc::Global;
 
-/// A flow in one period: the flow and its number, the period, and the expanded nodes where it begins and ends, of which one with
-/// one end has but one.
+/// A flow in one period: the flow and its number, the period, and the expanded nodes where it begins and ends, the same one where it
+/// has one end. Its gain stays with the flow.
 #[derive(Clone, Copy)]
 pub struct StagedArc<'a> {
     pub flow: &'a Flow,

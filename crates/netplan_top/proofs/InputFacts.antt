@@ -10,8 +10,9 @@ use Rattle.net_csv.specs.declared.refused.Tail.TheVariants as tail
 use Rattle.certificates.specs.Reading.{ReadsPlan}
 use Rattle.certificates.specs.declared.refused.PlanRefused.{PlanRefused}
 use Rattle.certificates.specs.declared.refused.PlanRefused.TheVariants as plan_refused
-use Rattle.netplan_top.specs.Reads.{HasNetwork, IsInputRead, IsStopOf, rest_of}
-use Rattle.netplan_top.specs.Stops.{network_stop, plan_stop}
+use Rattle.netplan_top.specs.Commands.Check.{HasNetwork, rest_of}
+use Rattle.netplan_top.specs.Steps.Judged.{IsInputRead, IsStopOf}
+use Rattle.netplan_top.specs.Steps.Stops.{network_stop, plan_stop}
 
 has-network : (bytes : List ℕ) (scheme : Scheme) (count : ℕ) → ReadsScheme tail.Plan (records_of bytes) (Ok (scheme, count)) → HasNetwork bytes scheme count
 has-network bytes scheme count h = record { network = h.0; scheme_is = h.1 }

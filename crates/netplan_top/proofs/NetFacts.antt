@@ -14,8 +14,8 @@ use Rattle.period_expand.specs.Expansion.{segment_count}
 use Rattle.np_model.specs.Scheme.Plans.{staged}
 use Rattle.convex_arcs.specs.Segments.{first_arc, band_arc, segment_arcs, flat_arcs}
 use Rattle.np_model.specs.declared.scheme.Scheme.{Scheme}
-use Rattle.netplan_top.specs.Texts.{end_record}
-use Rattle.netplan_top.specs.NetText.{numbered_segments, segment_arc, arc_record, size_record, node_records, arc_records, net_text}
+use Rattle.netplan_top.specs.Texts.Frame.{end_record}
+use Rattle.netplan_top.specs.Texts.Network.{numbered_segments, segment_arc, arc_record, size_record, node_records, arc_records, net_text}
 
 -- ---- numbered elements
 

@@ -17,10 +17,13 @@ use Rattle.net_csv.specs.declared.refused.Tail.{Tail}
 use Rattle.net_csv.specs.declared.refused.Tail.TheVariants as tail
 use Rattle.netplan_top.specs.declared.words.Command.{Command}
 use Rattle.netplan_top.specs.declared.words.Command.TheVariants.{Check, Expand}
-use Rattle.netplan_top.specs.Reads.{HasNetwork, Reads, IsFault, IsPlanFault, IsNetwork, rest_of}
-use Rattle.netplan_top.specs.Answers.{Accepts, Rejects, Passes, IsAnswer, IsExpandAnswer, AnswerOf}
-use Rattle.netplan_top.specs.NetText.{net_text}
-use Rattle.netplan_top.specs.Texts.{refused_text, check_text, accepted_line, rejected_line, past_line}
+use Rattle.netplan_top.specs.Commands.Check.{HasNetwork, StandsFor, IsPlanFault, rest_of, Accepts, Rejects, Overflows, IsCheckAnswer}
+use Rattle.netplan_top.specs.Commands.Faults.{IsFault}
+use Rattle.netplan_top.specs.Commands.Expand.{IsNetwork, IsExpandAnswer}
+use Rattle.netplan_top.specs.Commands.Answers.{AnswerOf}
+use Rattle.netplan_top.specs.Texts.Network.{net_text}
+use Rattle.netplan_top.specs.Texts.Frame.{refused_text}
+use Rattle.netplan_top.specs.Texts.Checked.{check_text, accepted_line, rejected_line, past_line}
 use Rattle.netplan_top.proofs.OneReading.{OneScheme, OnePlan, scheme_is, plan_is, count_is}
 
 abbrev said : ℕ → List ℕ → ℕ × List ℕ
@@ -41,9 +44,9 @@ rejects_told : (s : Scheme) (p : Plan) (x : List ℕ) → Rejects s p x → said
 unfolding told
 rejects_told s p x h = ap (said 10) h.text_is ∙ sym (ap (told s) h.walked)
 
-passes_told : (s : Scheme) (p : Plan) (x : List ℕ) → Passes s p x → said 4 x ≡ told s (walk s p)
+overflows_told : (s : Scheme) (p : Plan) (x : List ℕ) → Overflows s p x → said 4 x ≡ told s (walk s p)
 unfolding told
-passes_told s p x h = ap (said 4) h.text_is ∙ sym (ap (told s) h.walked)
+overflows_told s p x h = ap (said 4) h.text_is ∙ sym (ap (told s) h.walked)
 
 -- ---- what stands behind an answer, and that each of these leaves no room for another
 
@@ -62,7 +65,7 @@ record IsPlanFaultTold (input : List ℕ) (status : ℕ) (text : List ℕ) : Typ
 record IsTold (input : List ℕ) (status : ℕ) (text : List ℕ) : Type 0 where
   pub scheme : Scheme
   pub plan : Plan
-  pub reads : Reads input scheme plan
+  pub reads : StandsFor input scheme plan
   pub answer : said status text ≡ told scheme (walk scheme plan)
 
 data Cause (input : List ℕ) (status : ℕ) (text : List ℕ) : Type 0 where
@@ -70,14 +73,14 @@ data Cause (input : List ℕ) (status : ℕ) (text : List ℕ) : Type 0 where
   faulty_plan : IsPlanFaultTold input status text → Cause input status text
   walked : IsTold input status text → Cause input status text
 
-cause_of : (input : List ℕ) (status : ℕ) (text : List ℕ) → IsAnswer input status text → Cause input status text
+cause_of : (input : List ℕ) (status : ℕ) (text : List ℕ) → IsCheckAnswer input status text → Cause input status text
 cause_of input status text a =
     elim a.known [
       | inl e ↦ let h = a.accepts e in
           Cause.walked (record { scheme = h.scheme; plan = h.plan; reads = h.reads; answer = ap (λ n. said n text) e ∙ accepts_told _ _ _ h.says })
       | inr rest ↦ elim rest [
-        | inl e ↦ let h = a.passes e in
-            Cause.walked (record { scheme = h.scheme; plan = h.plan; reads = h.reads; answer = ap (λ n. said n text) e ∙ passes_told _ _ _ h.says })
+        | inl e ↦ let h = a.overflows e in
+            Cause.walked (record { scheme = h.scheme; plan = h.plan; reads = h.reads; answer = ap (λ n. said n text) e ∙ overflows_told _ _ _ h.says })
         | inr more ↦ elim more [
           | inl e ↦ elim (a.refuses e) [
             | inl h ↦ Cause.fault (record { place = h.place; code = h.code; fault = h.fault; answer = ap (λ n. said n text) e ∙ ap (said 5) h.text_is })
@@ -125,7 +128,7 @@ none_some : (x y : Option (ℕ × PlanCode)) (z : ℕ × PlanCode) → x ≡ y �
 none_some x y z e a b = cc
 
 -- a plan that was read has no fault
-no_plan_fault : OneScheme → (input : List ℕ) (place : ℕ) (code : PlanCode) (s : Scheme) (p : Plan) → IsPlanFault input place code → Reads input s p → ⊥
+no_plan_fault : OneScheme → (input : List ℕ) (place : ℕ) (code : PlanCode) (s : Scheme) (p : Plan) → IsPlanFault input place code → StandsFor input s p → ⊥
 no_plan_fault law input place code s p h reads =
     none_some _ _ (place, code) (same_fault_in law input s h.scheme reads.count h.count reads.network h.network) reads.whole h.fault
 
@@ -146,7 +149,7 @@ same_cause law plans input s t x y (Cause.walked a) (Cause.fault b) = absurd (no
 same_cause law plans input s t x y (Cause.walked a) (Cause.faulty_plan b) = absurd (no_plan_fault law input b.place b.code a.scheme a.plan b.fault a.reads)
 same_cause law plans input s t x y (Cause.walked a) (Cause.walked b) = both_told law plans input s t x y a b
 
-same_pair : OneScheme → OnePlan → (input : List ℕ) (s t : ℕ) (x y : List ℕ) → IsAnswer input s x → IsAnswer input t y → said s x ≡ said t y
+same_pair : OneScheme → OnePlan → (input : List ℕ) (s t : ℕ) (x y : List ℕ) → IsCheckAnswer input s x → IsCheckAnswer input t y → said s x ≡ said t y
 same_pair law plans input s t x y a b = same_cause law plans input s t x y (cause_of input s x a) (cause_of input t y b)
 
 -- ---- what `expand` says

@@ -6,7 +6,7 @@ use Rattle.np_model.specs.declared.plan.Plan.{Plan}
 use Rattle.net_csv.specs.Grammar.{IsSchemeOf}
 use Rattle.net_csv.specs.declared.refused.Code.{Code}
 use Rattle.certificates.specs.Grammar.{IsPlanOf}
-use Rattle.netplan_top.specs.Reads.{HasNetwork, Reads, rest_of}
+use Rattle.netplan_top.specs.Commands.Check.{HasNetwork, StandsFor, rest_of}
 
 -- records are those of at most one scheme, and behind it of at most one plan
 abbrev pub OneScheme : Type 0
@@ -21,10 +21,10 @@ ok_is x k l a b = cc
 pub count_is : (input : List ℕ) (s t : Scheme) (k l : ℕ) → HasNetwork input s k → HasNetwork input t l → k ≡ l
 count_is input s t k l a b = ok_is _ k l a.network b.network
 
-pub scheme_is : OneScheme → (input : List ℕ) (s t : Scheme) (p q : Plan) → Reads input s p → Reads input t q → s ≡ t
+pub scheme_is : OneScheme → (input : List ℕ) (s t : Scheme) (p q : Plan) → StandsFor input s p → StandsFor input t q → s ≡ t
 scheme_is law input s t p q a b = law _ s t a.network.scheme_is b.network.scheme_is
 
-pub plan_is : OneScheme → OnePlan → (input : List ℕ) (s t : Scheme) (p q : Plan) → Reads input s p → Reads input t q → p ≡ q
+pub plan_is : OneScheme → OnePlan → (input : List ℕ) (s t : Scheme) (p q : Plan) → StandsFor input s p → StandsFor input t q → p ≡ q
 plan_is law plans input s t p q a b =
     let e : s ≡ t = scheme_is law input s t p q a b in
     let f : a.count ≡ b.count = count_is input s t a.count b.count a.network b.network in

@@ -3,13 +3,17 @@ use Rattle.std.specs.Prelude.{◌≡◌, ◌≢◌, ℕ, ◌⊎◌, Option, List
 use Rattle.std.specs.declared.string.String.{String}
 use Rattle.std.specs.declared.alloc.Global.{Global}
 use Rattle.np_io.specs.Faults.{Rose}
-use Rattle.std.proofs.Common.{sym, subst, ◌∙◌, inl, inr, arith}
+use Rattle.std.proofs.Common.{sym, subst, ◌∙◌, inl, inr, arith, refl}
 use Rattle.net_csv.specs.declared.refused.Tail.TheVariants as tail
 use Rattle.netplan_top.specs.declared.words.Command.{Command}
 use Rattle.netplan_top.specs.declared.words.Command.TheVariants.{Check, Expand}
-use Rattle.netplan_top.specs.Words.{Names}
-use Rattle.netplan_top.specs.Answers.{Accepts, Passes, Rejects, Expands, Says, IsFaulty, IsPlanFaulty, IsExpandAnswer, AnswerOf, IsWholeInput, IsTooLong, Gives, GivesTooLong, IsCut, IsSomeText, IsAllowed, IsStatus}
-use Rattle.netplan_top.specs.Endings.{IsPrinted, Streams, Ending}
+use Rattle.netplan_top.specs.Words.{Names, IsCommand, usage_text}
+use Rattle.netplan_top.specs.Commands.Check.{Accepts, Overflows, Rejects, Says, IsPlanFaulty}
+use Rattle.netplan_top.specs.Commands.Expand.{Expands, IsExpandAnswer}
+use Rattle.netplan_top.specs.Commands.Faults.{IsFaulty}
+use Rattle.netplan_top.specs.Commands.Answers.{AnswerOf}
+use Rattle.netplan_top.specs.Run.{IsRun, IsWholeInput, IsTooLong, Gives, GivesTooLong, IsCut, IsSomeText, IsAllowed, IsStatus, Streams}
+use Rattle.netplan_top.specs.Steps.Endings.{IsPrinted, Ending}
 use Rattle.netplan_top.proofs.WordFacts.{apart}
 
 -- ---- how a run ends
@@ -32,7 +36,7 @@ ends_too_long command io result text long printed = elim printed [
 
 module _ (command : Command) (io : Streams) (status : ℕ) where
   pub gives : Ending command io status → (own : ℕ) (claim : List ℕ → List ℕ → Type 0) → status ≡ own → own ≢ 5 → own ≢ 7 → own ≢ 8 → own ≢ 9
-      → ((input text : List ℕ) → AnswerOf command input status text → claim input text) → Gives claim io.left io.left' io.written io.written'
+      → ((input text : List ℕ) → AnswerOf command input status text → claim input text) → Gives claim io
   gives (Ending.answered input text whole answer wrote) own claim e a b c d f = record { input = input; text = text; whole = whole; says = f input text answer; wrote = wrote }
   gives (Ending.too_long text is long wrote) own claim e a b c d f = absurd (a (sym e ∙ is))
   gives (Ending.cut is it) own claim e a b c d f = absurd (c (sym e ∙ is))
@@ -41,7 +45,7 @@ module _ (command : Command) (io : Streams) (status : ℕ) where
 
   -- of a fault, or of a text that is too long
   gives_fault : Ending command io status → (claim : List ℕ → List ℕ → Type 0) → status ≡ 5 → ((input text : List ℕ) → AnswerOf command input status text → claim input text)
-      → Gives claim io.left io.left' io.written io.written' ⊎ GivesTooLong io.left io.left' io.written io.written'
+      → Gives claim io ⊎ GivesTooLong io
   gives_fault (Ending.answered input text whole answer wrote) claim e f = inl (record { input = input; text = text; whole = whole; says = f input text answer; wrote = wrote })
   gives_fault (Ending.too_long text is long wrote) claim e f = inr (record { text = text; too_long = long; wrote = wrote })
   gives_fault (Ending.cut is it) claim e f = absurd (omega arith)
@@ -91,7 +95,7 @@ module _ (command : Command) (io : Streams) (status : ℕ) where
   out_of_memory (Ending.unread is rose same) e = absurd (omega arith)
   out_of_memory (Ending.no_memory is same) e = same
 
-  sink_failed : Ending command io status → status ≡ 8 → IsCut (IsSomeText command io.left io.left') io.sink_faults io.sink_faults' io.sure io.written io.written'
+  sink_failed : Ending command io status → status ≡ 8 → IsCut (IsSomeText command io) io
   sink_failed (Ending.answered input text whole answer wrote) e = other 8 input text answer e (λ h. omega arith) (λ h. omega arith) (λ h. omega arith) (λ h. omega arith)
   sink_failed (Ending.too_long text is long wrote) e = absurd (omega arith)
   sink_failed (Ending.cut is it) e = it
@@ -99,22 +103,22 @@ module _ (command : Command) (io : Streams) (status : ℕ) where
   sink_failed (Ending.no_memory is same) e = absurd (omega arith)
 
   pub cut : (words : List (String Global)) → Names words command → Ending command io status → status ≡ 8
-      → IsCut (IsAllowed words io.left io.left') io.sink_faults io.sink_faults' io.sure io.written io.written'
+      → IsCut (IsAllowed words io) io
   cut words named ends e =
       let it = sink_failed ends e in
       record { text = it.text; is_allowed = inr (command, named, it.is_allowed); rose = it.rose; part = it.part; unsure = it.unsure }
 
 -- ---- by the command that the words name
 
-pub accepted : (words : List (String Global)) (command : Command) (io : Streams) (status : ℕ) → Names words command → Ending command io status → Names words Check → status ≡ 0
-    → Gives (Says Accepts) io.left io.left' io.written io.written'
+accepted : (words : List (String Global)) (command : Command) (io : Streams) (status : ℕ) → Names words command → Ending command io status → Names words Check → status ≡ 0
+    → Gives (Says Accepts) io
 accepted words Check io status named ends check e =
     gives Check io status ends 0 (Says Accepts) e (λ h. absurd (omega arith)) (λ h. absurd (omega arith)) (λ h. absurd (omega arith)) (λ h. absurd (omega arith))
     (λ input text answer. answer.accepts e)
 accepted words Expand io status named ends check e = absurd (apart words check named)
 
-pub expanded : (words : List (String Global)) (command : Command) (io : Streams) (status : ℕ) → Names words command → Ending command io status → Names words Expand → status ≡ 0
-    → Gives Expands io.left io.left' io.written io.written'
+expanded : (words : List (String Global)) (command : Command) (io : Streams) (status : ℕ) → Names words command → Ending command io status → Names words Expand → status ≡ 0
+    → Gives Expands io
 expanded words Check io status named ends expand e = absurd (apart words named expand)
 expanded words Expand io status named ends expand e =
     gives Expand io status ends 0 Expands e (λ h. absurd (omega arith)) (λ h. absurd (omega arith)) (λ h. absurd (omega arith)) (λ h. absurd (omega arith))
@@ -124,8 +128,8 @@ expanded words Expand io status named ends expand e =
 only_two : (own status : ℕ) (input text : List ℕ) {claim : Type 0} → IsExpandAnswer input status text → status ≡ own → own ≢ 0 → own ≢ 5 → claim
 only_two own status input text answer e a b = absurd (elim answer.known [ inl is ↦ a (sym e ∙ is) | inr is ↦ b (sym e ∙ is) ])
 
-no_pass : (io : Streams) (status : ℕ) → Ending Expand io status → status ≡ 4 → ⊥
-no_pass io status ends e =
+no_overflow : (io : Streams) (status : ℕ) → Ending Expand io status → status ≡ 4 → ⊥
+no_overflow io status ends e =
     let given = gives Expand io status ends 4 (λ _ _. ⊥) e (λ h. absurd (omega arith)) (λ h. absurd (omega arith)) (λ h. absurd (omega arith)) (λ h. absurd (omega arith))
     (λ input text answer. only_two 4 status input text answer e (λ h. absurd (omega arith)) (λ h. absurd (omega arith))) in
     given.says
@@ -136,32 +140,30 @@ no_reject io status ends e =
     (λ input text answer. only_two 10 status input text answer e (λ h. absurd (omega arith)) (λ h. absurd (omega arith))) in
     given.says
 
-pub passed : (words : List (String Global)) (command : Command) (io : Streams) (status : ℕ) → Names words command → Ending command io status → status ≡ 4
-    → Names words Check × Gives (Says Passes) io.left io.left' io.written io.written'
-passed words Check io status named ends e = (
+overflowed : (words : List (String Global)) (command : Command) (io : Streams) (status : ℕ) → Names words command → Ending command io status → status ≡ 4
+    → Names words Check × Gives (Says Overflows) io
+overflowed words Check io status named ends e = (
   named,
-  gives Check io status ends 4 (Says Passes) e (λ h. absurd (omega arith)) (λ h. absurd (omega arith)) (λ h. absurd (omega arith)) (λ h. absurd (omega arith)) (λ input text answer. answer.passes e),
+  gives Check io status ends 4 (Says Overflows) e (λ h. absurd (omega arith)) (λ h. absurd (omega arith)) (λ h. absurd (omega arith)) (λ h. absurd (omega arith)) (λ input text answer. answer.overflows e),
 )
-passed words Expand io status named ends e = absurd (no_pass io status ends e)
+overflowed words Expand io status named ends e = absurd (no_overflow io status ends e)
 
-pub rejected : (words : List (String Global)) (command : Command) (io : Streams) (status : ℕ) → Names words command → Ending command io status → status ≡ 10
-    → Names words Check × Gives (Says Rejects) io.left io.left' io.written io.written'
+rejected : (words : List (String Global)) (command : Command) (io : Streams) (status : ℕ) → Names words command → Ending command io status → status ≡ 10
+    → Names words Check × Gives (Says Rejects) io
 rejected words Check io status named ends e = (
   named,
   gives Check io status ends 10 (Says Rejects) e (λ h. absurd (omega arith)) (λ h. absurd (omega arith)) (λ h. absurd (omega arith)) (λ h. absurd (omega arith)) (λ input text answer. answer.rejects e),
 )
 rejected words Expand io status named ends e = absurd (no_reject io status ends e)
 
-one_of : {left left' written written' : Option (List ℕ)}
-    → Gives (λ input text. IsFaulty tail.Plan input text ⊎ IsPlanFaulty input text) left left' written written'
-    → Gives (IsFaulty tail.Plan) left left' written written' ⊎ Gives IsPlanFaulty left left' written written'
+one_of : {io : Streams} → Gives (λ input text. IsFaulty tail.Plan input text ⊎ IsPlanFaulty input text) io → Gives (IsFaulty tail.Plan) io ⊎ Gives IsPlanFaulty io
 one_of given = elim given.says [
   | inl faulty ↦ inl (record { input = given.input; text = given.text; whole = given.whole; says = faulty; wrote = given.wrote })
   | inr plan ↦ inr (record { input = given.input; text = given.text; whole = given.whole; says = plan; wrote = given.wrote })
 ]
 
-pub refused : (words : List (String Global)) (command : Command) (io : Streams) (status : ℕ) → Names words command → Ending command io status → Names words Check → status ≡ 5
-    → Gives (IsFaulty tail.Plan) io.left io.left' io.written io.written' ⊎ Gives IsPlanFaulty io.left io.left' io.written io.written' ⊎ GivesTooLong io.left io.left' io.written io.written'
+refused : (words : List (String Global)) (command : Command) (io : Streams) (status : ℕ) → Names words command → Ending command io status → Names words Check → status ≡ 5
+    → Gives (IsFaulty tail.Plan) io ⊎ Gives IsPlanFaulty io ⊎ GivesTooLong io
 refused words Check io status named ends check e =
     elim (gives_fault Check io status ends (λ input text. IsFaulty tail.Plan input text ⊎ IsPlanFaulty input text) e (λ input text answer. answer.refuses e)) [
       | inl given ↦ elim (one_of given) [ inl faulty ↦ inl faulty | inr plan ↦ inr (inl plan) ]
@@ -169,7 +171,49 @@ refused words Check io status named ends check e =
     ]
 refused words Expand io status named ends check e = absurd (apart words check named)
 
-pub not_expanded : (words : List (String Global)) (command : Command) (io : Streams) (status : ℕ) → Names words command → Ending command io status → Names words Expand → status ≡ 5
-    → Gives (IsFaulty tail.Nothing) io.left io.left' io.written io.written' ⊎ GivesTooLong io.left io.left' io.written io.written'
+not_expanded : (words : List (String Global)) (command : Command) (io : Streams) (status : ℕ) → Names words command → Ending command io status → Names words Expand → status ≡ 5
+    → Gives (IsFaulty tail.Nothing) io ⊎ GivesTooLong io
 not_expanded words Check io status named ends expand e = absurd (apart words named expand)
 not_expanded words Expand io status named ends expand e = gives_fault Expand io status ends (IsFaulty tail.Nothing) e (λ input text answer. answer.refuses e)
+
+-- ---- a run
+
+-- of words that name a command
+pub command_runs : (words : List (String Global)) (command : Command) (io : Streams) (status : ℕ) → Names words command → Ending command io status → IsRun words io status
+command_runs words command io status named ends = record {
+  no_command = λ none. absurd (none (command, named));
+  usage = λ e. absurd (no_usage command io status ends e);
+  accepted = accepted words command io status named ends;
+  overflowed = overflowed words command io status named ends;
+  rejected = rejected words command io status named ends;
+  refused = refused words command io status named ends;
+  expanded = expanded words command io status named ends;
+  not_expanded = not_expanded words command io status named ends;
+  unread_rest = source_failed command io status ends;
+  cut = cut command io status words named ends;
+  no_memory = λ e. ((command, named), out_of_memory command io status ends e);
+  known = known command io status ends;
+}
+
+-- of words that name none: the usage text was written, or the sink failed
+pub usage_runs : (words : List (String Global)) (io : Streams) (status : ℕ) → ¬ (IsCommand words) → IsPrinted usage_text 6 status io.sink_faults io.sink_faults' io.sure io.written io.written' → IsRun words io status
+usage_runs words io status none printed =
+    let ended : (status ≡ 6) ⊎ (status ≡ 8) = elim printed [ inl all ↦ inl all.0 | inr part ↦ inr part.0 ] in
+    let other : {claim : Type 0} (own : ℕ) → own ≢ 6 → own ≢ 8 → status ≡ own → claim = λ own a b e. absurd (elim ended [ inl is ↦ a (sym e ∙ is) | inr is ↦ b (sym e ∙ is) ]) in
+    record {
+      no_command = λ _. ended;
+      usage = λ e. (none, elim printed [ inl all ↦ all.1 | inr part ↦ absurd (let is = part.0 in omega arith) ]);
+      accepted = λ named e. absurd (none (Check, named));
+      overflowed = other 4 (λ h. omega arith) (λ h. omega arith);
+      rejected = other 10 (λ h. omega arith) (λ h. omega arith);
+      refused = λ named e. absurd (none (Check, named));
+      expanded = λ named e. absurd (none (Expand, named));
+      not_expanded = λ named e. absurd (none (Expand, named));
+      unread_rest = other 7 (λ h. omega arith) (λ h. omega arith);
+      cut = λ e. elim printed [
+        | inl all ↦ absurd (let is = all.0 in omega arith)
+        | inr part ↦ record { text = usage_text; is_allowed = inl (none, refl); rose = part.1; part = part.2; unsure = part.3 }
+      ];
+      no_memory = other 9 (λ h. omega arith) (λ h. omega arith);
+      known = elim ended [ inl is ↦ inr (inr (inr (inl is))) | inr is ↦ inr (inr (inr (inr (inr (inl is))))) ];
+    }

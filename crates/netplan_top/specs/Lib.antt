@@ -1,7 +1,5 @@
-pub mod Reads
-pub mod Texts
-pub mod NetText
 pub mod Words
-pub mod Answers
-pub mod Endings
-pub mod Stops
+pub mod Texts
+pub mod Commands
+pub mod Run
+pub mod Steps

@@ -1,29 +1,32 @@
 //! Laws of what is read and of what is said of it, as the clauses of functions that do nothing.
 
-ghost use Rattle.std.specs.Prelude.{◌≡◌, ◌++◌, ℕ, Bool, List, length, map};
+ghost use Rattle.std.specs.Prelude.{◌≡◌, ◌≤◌, ◌++◌, ℕ, Bool, List, length, map};
 ghost use Rattle.std.specs.List.{flat_map};
 ghost use Rattle.np_model.specs.declared.scheme.Scheme.{Scheme};
 ghost use Rattle.np_model.specs.declared.plan.Plan.{Plan};
 ghost use Rattle.np_model.specs.Scheme.Plans.{staged};
 ghost use Rattle.np_model.specs.Scheme.Segments.{Stage};
 ghost use Rattle.np_model.specs.Scheme.Fits.{PlanFits};
+ghost use Rattle.np_records.specs.Records.{records_of};
 ghost use Rattle.np_records.specs.Texts.{records_text};
 ghost use Rattle.net_csv.specs.Writing.{rows_of};
 ghost use Rattle.certificates.specs.Writing.{plan_rows, told, HasFractions};
 ghost use Rattle.cert_checker.specs.Walk.{walk};
 ghost use Rattle.convex_arcs.specs.Segments.{flat_arcs};
 ghost use Rattle.netplan_top.specs.declared.words.Command.{Command};
-ghost use Rattle.netplan_top.specs.Reads.{Reads};
-ghost use Rattle.netplan_top.specs.Answers.{AnswerOf};
-ghost use Rattle.netplan_top.specs.NetText.{numbered_segments, segment_arc, arc_records};
+ghost use Rattle.netplan_top.specs.Commands.Check.{StandsFor, IsReadBehind};
+ghost use Rattle.netplan_top.specs.Commands.Answers.{longest, AnswerOf, HasAnswer};
+ghost use Rattle.netplan_top.specs.Texts.Network.{numbered_segments, segment_arc, arc_records};
 
-use certificates::laws::{one_plan, written_plans_are_read};
-use net_csv::laws::one_scheme;
+use cert_checker::laws::{walk_ends, walk_proves};
+use certificates::laws::{one_plan, some_plan, written_plans_are_read};
+use net_csv::laws::{one_scheme, texts_stand_for_schemes, written_schemes_are_read};
+use np_records::laws::records_are_few;
 
 /// An input stands for at most one scheme and one plan.
 pub fn one_reading()
-    ensures scheme { (input : List ℕ) (s t : Scheme) (p q : Plan) → Reads input s p → Reads input t q → s ≡ t }
-    ensures plan { (input : List ℕ) (s t : Scheme) (p q : Plan) → Reads input s p → Reads input t q → p ≡ q }
+    ensures scheme { (input : List ℕ) (s t : Scheme) (p q : Plan) → StandsFor input s p → StandsFor input t q → s ≡ t }
+    ensures plan { (input : List ℕ) (s t : Scheme) (p q : Plan) → StandsFor input s p → StandsFor input t q → p ≡ q }
 {
     one_scheme();
     one_plan();
@@ -32,10 +35,16 @@ pub fn one_reading()
 /// The text of a scheme with the text of a plan behind it stands for that scheme and for what was written of the plan, and
 /// the walk over that is the walk over the plan. So `check` says of the texts what the checker says of the plan.
 pub fn written_inputs()
+    // A plan's records behind those of its scheme, as bytes, and the two texts one behind the other.
+    ensures behind { (scheme : Scheme) (plan : Plan) (log : Bool) → PlanFits scheme plan → HasFractions (told plan log)
+        → IsReadBehind scheme (records_of (records_text (rows_of scheme ++ plan_rows scheme plan log))) (told plan log) }
+    ensures texts { (scheme : Scheme) (plan : Plan) (log : Bool) → PlanFits scheme plan → HasFractions (told plan log)
+        → IsReadBehind scheme (records_of (records_text (rows_of scheme) ++ records_text (plan_rows scheme plan log))) (told plan log) }
     ensures reads { (scheme : Scheme) (plan : Plan) (log : Bool) → PlanFits scheme plan → HasFractions (told plan log)
-        → Reads (records_text (rows_of scheme ++ plan_rows scheme plan log)) scheme (told plan log) }
+        → StandsFor (records_text (rows_of scheme ++ plan_rows scheme plan log)) scheme (told plan log) }
     ensures walk { (scheme : Scheme) (plan : Plan) (log : Bool) → walk scheme (told plan log) ≡ walk scheme plan }
 {
+    written_schemes_are_read();
     written_plans_are_read();
 }
 
@@ -46,6 +55,17 @@ pub fn one_answer()
 {
     one_scheme();
     one_plan();
+}
+
+/// Each input of at most 16,777,216 bytes has an answer of each command, and so, by [`one_answer`], exactly one.
+pub fn some_answer()
+    ensures { (command : Command) (input : List ℕ) → length input ≤ longest → HasAnswer command input }
+{
+    records_are_few();
+    texts_stand_for_schemes();
+    some_plan();
+    walk_proves();
+    walk_ends();
 }
 
 /// The text of an expanded network lists the arcs of that network in order and no others, and its size record counts them.

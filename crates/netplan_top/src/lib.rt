@@ -1,11 +1,8 @@
 //! The commands, over any source and any sink.
 #![tactic(auto)]
 
-mod answer;
-mod input;
+mod commands;
 pub mod laws;
-mod net_text;
-mod stop;
 mod texts;
 mod top;
 mod words;

@@ -1,15 +1,12 @@
 //! The program, over any source and sink.
 
-ghost use Rattle.std.specs.Prelude.{◌≡◌, ◌<◌, ◌⊎◌, length};
-ghost use Rattle.np_io.specs.Faults.{Rose};
-ghost use Rattle.net_csv.specs.declared.refused.Tail.TheVariants as tail;
-ghost use Rattle.netplan_top.specs.declared.words.Command.TheVariants as command;
-ghost use Rattle.netplan_top.specs.Words.{Names, IsCommand, usage_text};
-ghost use Rattle.netplan_top.specs.Answers.{Accepts, Passes, Rejects, Expands, IsFaulty, IsPlanFaulty, Says, Gives, GivesTooLong, IsCut, IsAllowed, IsStatus, Wrote};
-ghost use Rattle.netplan_top.specs.Endings.{IsPrinted, Ending};
+ghost use Rattle.std.specs.Prelude.{◌≡◌};
+ghost use Rattle.netplan_top.specs.Words.{IsCommand};
+ghost use Rattle.netplan_top.specs.Run.{IsRun};
+ghost use Rattle.netplan_top.specs.Steps.Endings.{IsPrinted, Ending};
 
-use crate::answer::answer_of;
-use crate::texts::{USAGE, refusal};
+use crate::commands::answer_of;
+use crate::texts::{USAGE, refused};
 use crate::words::{Command, command_of};
 use np_io::{ReadRefusal, Sink, Source, read_all, write_all};
 use np_model::Gate;
@@ -50,7 +47,7 @@ fn answer_input<S: Source, K: Sink>(
             Ok(answer) => print(sink, &answer.text, answer.status),
             Err(_) => 9,
         },
-        Err(ReadRefusal::TooLong) => match refusal(alloc, 0, b"TooLong") {
+        Err(ReadRefusal::TooLong) => match refused(alloc, 0, b"TooLong") {
             Ok(text) => print(sink, &text, 5),
             Err(_) => 9,
         },
@@ -72,13 +69,13 @@ fn answer_input<S: Source, K: Sink>(
 /// | 0 | of `check`: accepted as infeasible, with the gap | there is no feasible plan |
 /// | 0 | of `check`: accepted as unbounded | every cost is undercut by some feasible plan |
 /// | 0 | of `expand`: the expanded network | the input is a network text, and nothing stands behind it |
-/// | 4 | the operation | of `check`: its exact result does not fit a fraction, and nothing before it in the walk fails |
+/// | 4 | the operation | of `check`: its exact result does not fit a fraction, and all before it in the walk holds |
 /// | 5 | the fault | the network text has this first fault; or, of `check`, it has none, and the plan text behind it has this one; or the input has more than 16,777,216 bytes (`TooLong`) |
 /// | 6 | usage | the words are no command |
 /// | 7 | nothing | the source failed |
 /// | 8 | a part of a text | the sink failed |
 /// | 9 | nothing | memory ran out |
-/// | 10 | rejected, with the clause | of `check`: this clause fails, and nothing before it in the walk |
+/// | 10 | rejected, with the clause | of `check`: this clause does not hold, and all before it in the walk does |
 ///
 /// The handle and the gate are for commands that work in threads: `check` and `expand` use neither.
 pub fn run<S: Source, K: Sink, G: Gate>(
@@ -90,30 +87,20 @@ pub fn run<S: Source, K: Sink, G: Gate>(
     _gate: &G,
 ) -> u8
     // The words are no command: nothing is read.
-    ensures no_command { ¬ (IsCommand words.now) → (result ≡ 6) ⊎ (result ≡ 8) }
     ensures unread { ¬ (IsCommand words.now) → source.new ≡ source.old }
-    ensures usage { result ≡ 6 → (¬ (IsCommand words.now)) × Wrote (K.written sink.old) (K.written sink.new) usage_text }
 
-    // `check` read the whole input, and the text says this of it.
-    ensures accepted { Names words.now command.Check → result ≡ 0 → Gives (Says Accepts) (S.left source.old) (S.left source.new) (K.written sink.old) (K.written sink.new) }
-    ensures passed { result ≡ 4 → Names words.now command.Check × Gives (Says Passes) (S.left source.old) (S.left source.new) (K.written sink.old) (K.written sink.new) }
-    ensures rejected { result ≡ 10 → Names words.now command.Check × Gives (Says Rejects) (S.left source.old) (S.left source.new) (K.written sink.old) (K.written sink.new) }
-    ensures refused { Names words.now command.Check → result ≡ 5
-        → Gives (IsFaulty tail.Plan) (S.left source.old) (S.left source.new) (K.written sink.old) (K.written sink.new)
-        ⊎ Gives IsPlanFaulty (S.left source.old) (S.left source.new) (K.written sink.old) (K.written sink.new)
-        ⊎ GivesTooLong (S.left source.old) (S.left source.new) (K.written sink.old) (K.written sink.new) }
-
-    // `expand` read the whole input, and the text is that of its expanded network, or names its first fault.
-    ensures expanded { Names words.now command.Expand → result ≡ 0 → Gives Expands (S.left source.old) (S.left source.new) (K.written sink.old) (K.written sink.new) }
-    ensures not_expanded { Names words.now command.Expand → result ≡ 5
-        → Gives (IsFaulty tail.Nothing) (S.left source.old) (S.left source.new) (K.written sink.old) (K.written sink.new)
-        ⊎ GivesTooLong (S.left source.old) (S.left source.new) (K.written sink.old) (K.written sink.new) }
-
-    // The source or the sink failed, or memory ran out.
-    ensures unread_rest { result ≡ 7 → Rose (S.faults source.old) (S.faults source.new) × (K.written sink.new ≡ K.written sink.old) }
-    ensures cut { result ≡ 8 → IsCut (IsAllowed words.now (S.left source.old) (S.left source.new)) (K.faults sink.old) (K.faults sink.new) (K.sure sink.old) (K.written sink.old) (K.written sink.new) }
-    ensures no_memory { result ≡ 9 → IsCommand words.now × (K.written sink.new ≡ K.written sink.old) }
-    ensures known { IsStatus result }
+    // Each status has its cause, in what was read and written.
+    ensures run { IsRun words.now (record {
+      left = S.left source.old;
+      left' = S.left source.new;
+      source_faults = S.faults source.old;
+      source_faults' = S.faults source.new;
+      written = K.written sink.old;
+      written' = K.written sink.new;
+      sink_faults = K.faults sink.old;
+      sink_faults' = K.faults sink.new;
+      sure = K.sure sink.old;
+    }) result }
 {
     let Some(command) = command_of(words) else {
         return print(sink, USAGE, 6);

@@ -5,5 +5,5 @@ use Rattle.cert_checker.specs.Walk.{add_supply}
 use Rattle.cert_checker.proofs.Pairs.{run}
 use Rattle.cert_checker.proofs.gap.supply_worth.Given as goal
 
-abbrev pub invariant-loop-v : goal.invariant-loop-v
-invariant-loop-v l = Ok l.running ≡ run (add_supply l.supply) (Ok zero_ratio) (take l.v (enumerate_from 0 l.prices))
+abbrev pub invariant-loop-node : goal.invariant-loop-node
+invariant-loop-node l = Ok l.running ≡ run (add_supply l.supply) (Ok zero_ratio) (take l.node (enumerate_from 0 l.prices))

@@ -1,0 +1,5 @@
+-- What each command says of an input.
+pub mod Faults
+pub mod Check
+pub mod Expand
+pub mod Answers

@@ -1,0 +1,106 @@
+-- How a run ends: the status, what was read, and what was written.
+use Rattle.std.specs.Prelude.{◌≡◌, ℕ, ◌+◌, ◌<◌, ◌≤◌, ◌⊎◌, Option, List, length, codes, take}
+use Rattle.std.specs.Io.KnownBytes.{prepend_known, append_known, IsAtEnd}
+use Rattle.std.specs.declared.string.String.{String}
+use Rattle.std.specs.declared.alloc.Global.{Global}
+use Rattle.np_io.specs.Faults.{Rose}
+use Rattle.np_io.specs.Input.{TookExactly}
+use Rattle.net_csv.specs.declared.refused.Tail.TheVariants as tail
+use Rattle.netplan_top.specs.declared.words.Command.{Command}
+use Rattle.netplan_top.specs.declared.words.Command.TheVariants.{Check, Expand}
+use Rattle.netplan_top.specs.Words.{Names, IsCommand, usage_text}
+use Rattle.netplan_top.specs.Texts.Frame.{refused_text}
+use Rattle.netplan_top.specs.Commands.Faults.{IsFaulty}
+use Rattle.netplan_top.specs.Commands.Check.{Says, Accepts, Rejects, Overflows, IsPlanFaulty}
+use Rattle.netplan_top.specs.Commands.Expand.{Expands}
+use Rattle.netplan_top.specs.Commands.Answers.{longest, AnswerOf}
+
+-- what the source and the sink had before a run (with no prime) and after it: the bytes that are left to read and those that were
+-- written, where they tell them, the counts of faults, and how many bytes the sink was sure to take
+pub record Streams : Type 0 where
+  pub left : Option (List ℕ)
+  pub left' : Option (List ℕ)
+  pub source_faults : ℕ
+  pub source_faults' : ℕ
+  pub written : Option (List ℕ)
+  pub written' : Option (List ℕ)
+  pub sink_faults : ℕ
+  pub sink_faults' : ℕ
+  pub sure : ℕ
+
+-- ---- what was read, and what was written
+
+-- these bytes are the whole input, read to its end
+pub record IsWholeInput (before after : Option (List ℕ)) (input : List ℕ) : Type 0 where
+  pub taken : before ≡ prepend_known input after
+  pub ended : IsAtEnd after
+  pub short : length input ≤ longest
+
+-- more bytes came than an input may have, and reading stopped there
+pub record IsTooLong (before after : Option (List ℕ)) (text : List ℕ) : Type 0 where
+  pub taken : TookExactly (longest + 1) before after
+  pub text_is : text ≡ refused_text 0 (codes "TooLong")
+
+-- all of the text was written
+abbrev pub Wrote : Option (List ℕ) → Option (List ℕ) → List ℕ → Type 0
+Wrote before after text = after ≡ append_known before text
+
+-- a first part of the text was written
+abbrev pub WrotePart : Option (List ℕ) → Option (List ℕ) → List ℕ → Type 0
+WrotePart before after text = (count : ℕ) × (count ≤ length text) × (after ≡ append_known before (take count text))
+
+-- the whole input was read, this is said of it, and all of the text that says it was written
+pub record Gives (claim : List ℕ → List ℕ → Type 0) (io : Streams) : Type 0 where
+  pub input : List ℕ
+  pub text : List ℕ
+  pub whole : IsWholeInput io.left io.left' input
+  pub says : claim input text
+  pub wrote : Wrote io.written io.written' text
+
+-- reading stopped past the limit, and all of the text that says so was written
+pub record GivesTooLong (io : Streams) : Type 0 where
+  pub text : List ℕ
+  pub too_long : IsTooLong io.left io.left' text
+  pub wrote : Wrote io.written io.written' text
+
+-- a text that some status of the command allows
+abbrev pub IsSomeText : Command → Streams → List ℕ → Type 0
+IsSomeText command io text =
+    ((input : List ℕ) × (status : ℕ) × IsWholeInput io.left io.left' input × AnswerOf command input status text) ⊎ IsTooLong io.left io.left' text
+
+-- the sink failed: its count rose, and a first part of a text was written of which it was not sure
+pub record IsCut (allowed : List ℕ → Type 0) (io : Streams) : Type 0 where
+  pub text : List ℕ
+  pub is_allowed : allowed text
+  pub rose : Rose io.sink_faults io.sink_faults'
+  pub part : WrotePart io.written io.written' text
+  pub unsure : io.sure < length text
+
+-- a text that the words allow, and for a command what was read: the usage text, or one that some status of the command allows
+abbrev pub IsAllowed : List (String Global) → Streams → List ℕ → Type 0
+IsAllowed words io text = ((¬ (IsCommand words)) × (text ≡ usage_text)) ⊎ ((command : Command) × Names words command × IsSomeText command io text)
+
+-- ---- the statuses
+
+abbrev pub IsStatus : ℕ → Type 0
+IsStatus status =
+    (status ≡ 0) ⊎ (status ≡ 4) ⊎ (status ≡ 5) ⊎ (status ≡ 6) ⊎ (status ≡ 7) ⊎ (status ≡ 8) ⊎ (status ≡ 9) ⊎ (status ≡ 10)
+
+-- a run of these words over these streams ended with this status
+pub record IsRun (words : List (String Global)) (io : Streams) (status : ℕ) : Type 0 where
+  -- the words are no command
+  pub no_command : ¬ (IsCommand words) → (status ≡ 6) ⊎ (status ≡ 8)
+  pub usage : status ≡ 6 → (¬ (IsCommand words)) × Wrote io.written io.written' usage_text
+  -- `check` read the whole input, and the text says this of it
+  pub accepted : Names words Check → status ≡ 0 → Gives (Says Accepts) io
+  pub overflowed : status ≡ 4 → Names words Check × Gives (Says Overflows) io
+  pub rejected : status ≡ 10 → Names words Check × Gives (Says Rejects) io
+  pub refused : Names words Check → status ≡ 5 → Gives (IsFaulty tail.Plan) io ⊎ Gives IsPlanFaulty io ⊎ GivesTooLong io
+  -- `expand` read the whole input, and the text is that of its expanded network, or names its first fault
+  pub expanded : Names words Expand → status ≡ 0 → Gives Expands io
+  pub not_expanded : Names words Expand → status ≡ 5 → Gives (IsFaulty tail.Nothing) io ⊎ GivesTooLong io
+  -- the source or the sink failed, or memory ran out
+  pub unread_rest : status ≡ 7 → Rose io.source_faults io.source_faults' × (io.written' ≡ io.written)
+  pub cut : status ≡ 8 → IsCut (IsAllowed words io) io
+  pub no_memory : status ≡ 9 → IsCommand words × (io.written' ≡ io.written)
+  pub known : IsStatus status
