@@ -24,7 +24,7 @@ use Rattle.np_records.specs.Faults.{unless, found}
 use Rattle.certificates.specs.Fields.{fraction_in, overflow_in, entry_in, fields_fault, used_fault, period_fault, given_fault}
 use Rattle.certificates.specs.Claims.{Outline, Claims, claims_of, of_kind, amounts_given}
 use Rattle.certificates.specs.Faults.{once_fault, name_fault, put_fault, amount_fault, pivot_fault, is_free, is_next, place_named, last_for, record_fault}
-use Rattle.certificates.specs.Steps.Claims.{IsOutline, made_of, with_amount, with_record}
+use Rattle.certificates.specs.Steps.Claims.{IsOutline, part_after, with_amount, with_record}
 use Rattle.certificates.proofs.Found.{found-same, found-new, listed-same, amounts-same, amounts-put, none-from}
 
 -- ---- what a record without a fault has
@@ -86,7 +86,7 @@ cons-list (Some x) = refl
 module _ (rows : List (List (List ℕ))) (r : List (List ℕ)) where
   -- a part that is claimed at most once
   once-more : {X : Type 0} (word : List ℕ) (reads : List (List ℕ) → Option X) → (is_kind r word ≡ true → found (of_kind word reads) rows ≡ None)
-      → found (of_kind word reads) (rows ++ r ∷ []) ≡ made_of word r (reads r) (found (of_kind word reads) rows)
+      → found (of_kind word reads) (rows ++ r ∷ []) ≡ part_after word r (reads r) (found (of_kind word reads) rows)
   once-more word reads free = elim (cases_Bool (is_kind r word)) [
     | inl t ↦ rw t (found-new (of_kind word reads) rows r (reads r) (free t) (rw t refl))
     | inr f ↦ rw f (found-same (of_kind word reads) rows r (rw f refl))
@@ -94,7 +94,7 @@ module _ (rows : List (List (List ℕ))) (r : List (List ℕ)) where
 
   -- amounts
   given-more : (word : List ℕ) (names : List (List ℕ)) (periods last : ℕ) → last ≤ periods → (is_kind r word ≡ true → amount_fault names last (amounts_given word names periods rows) r ≡ None)
-      → amounts_given word names periods (rows ++ r ∷ []) ≡ made_of word r (with_amount names (amounts_given word names periods rows) r) (amounts_given word names periods rows)
+      → amounts_given word names periods (rows ++ r ∷ []) ≡ part_after word r (with_amount names (amounts_given word names periods rows) r) (amounts_given word names periods rows)
   given-more word names periods last few right = elim (cases_Bool (is_kind r word)) [
     | inl t ↦ rw t (amounts-more word names periods last rows r t few (right t))
     | inr f ↦ rw f (amounts-same word names periods rows r f)
@@ -102,7 +102,7 @@ module _ (rows : List (List (List ℕ))) (r : List (List ℕ)) where
 
   -- the pivots
   listed-more : {X : Type 0} (word : List ℕ) (reads : List (List ℕ) → Option X)
-      → filter_map (of_kind word reads) (rows ++ r ∷ []) ≡ made_of word r (filter_map (of_kind word reads) rows ++ option_to_list (reads r)) (filter_map (of_kind word reads) rows)
+      → filter_map (of_kind word reads) (rows ++ r ∷ []) ≡ part_after word r (filter_map (of_kind word reads) rows ++ option_to_list (reads r)) (filter_map (of_kind word reads) rows)
   listed-more {X} word reads = elim (cases_Bool (is_kind r word)) [
     | inl t ↦ rw t (filter_map-append (of_kind word reads) rows (r ∷ []) ∙ rw t (ap (λ (l : List X). filter_map (of_kind word reads) rows ++ l) (cons-list (reads r))))
     | inr f ↦ rw f (listed-same (of_kind word reads) rows r (rw f refl))
