@@ -1,5 +1,5 @@
 -- The records that are written for a plan have no fault, and are those of the parts that were written.
-use Rattle.std.specs.Prelude.{◌≡◌, ℕ, ◌*◌, ◌&&◌, ◌||◌, Bool, true, false, IsTrue, Option, Some, None, IsSome, IfSome, IsSomeAnd, List, [], ◌∷◌, length, replicate, codes, if◌then◌else◌}
+use Rattle.std.specs.Prelude.{◌≡◌, ℕ, ◌*◌, ◌&&◌, ◌||◌, Bool, true, false, IsTrue, Option, Some, None, IsSome, IfSome, IsSomeAnd, List, [], ◌∷◌, ◌++◌, length, replicate, codes, if◌then◌else◌}
 use Rattle.std.specs.List.{All}
 use Rattle.std.proofs.Common.{refl, sym, ap, subst}
 use Rattle.std.proofs.lemmas.List.{length-map}
