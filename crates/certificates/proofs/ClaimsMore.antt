@@ -1,8 +1,9 @@
 -- One more record of a plan text, and what all records claim then.
-use Rattle.std.specs.Prelude.{◌≡◌, ℕ, zero, suc, ◌+◌, ◌-◌, ◌*◌, ◌<◌, ◌≤◌, ◌==◌, ◌&&◌, nat_le, true, Option, Some, None, IsSome, is_some, unwrap_or, List, [], ◌∷◌, ◌++◌, length, codes, slice_get}
+use Rattle.std.specs.Prelude.{◌≡◌, ℕ, zero, suc, ◌+◌, ◌-◌, ◌*◌, ◌<◌, ◌≤◌, ◌==◌, ◌&&◌, nat_le, true, Option, Some, None, IsSome, is_some, unwrap_or, List, [], ◌∷◌, ◌++◌, length, codes, slice_get, if◌then◌else◌}
+use Rattle.std.specs.Str.{bytes_eq}
 use Rattle.std.specs.List.{All, filter_map, cons_option}
 use Rattle.std.specs.Option.{option_or, option_to_list}
-use Rattle.std.proofs.Common.{refl, ap, ◌∙◌, inl, inr, arith}
+use Rattle.std.proofs.Common.{refl, ap, ◌∙◌, subst, inl, inr, arith}
 use Rattle.std.proofs.lemmas.Bool.{cases_Bool}
 use Rattle.std.proofs.lemmas.Bool.Decides.{nat_tests}
 use Rattle.std.proofs.lemmas.List.Elements.{filter_map-append, All-head, All-tail}
@@ -23,7 +24,7 @@ use Rattle.np_records.specs.Faults.{unless, found}
 use Rattle.certificates.specs.Fields.{fraction_in, overflow_in, entry_in, fields_fault, used_fault, period_fault, given_fault}
 use Rattle.certificates.specs.Claims.{Outline, Claims, claims_of, of_kind, amounts_given}
 use Rattle.certificates.specs.Faults.{once_fault, name_fault, put_fault, amount_fault, pivot_fault, is_free, is_next, place_named, last_for, record_fault}
-use Rattle.certificates.specs.Steps.Claims.{IsOutline, with_amount, with_record}
+use Rattle.certificates.specs.Steps.Claims.{IsOutline, part_after, with_amount, with_record}
 use Rattle.certificates.proofs.Found.{found-same, found-new, listed-same, amounts-same, amounts-put, none-from}
 
 -- ---- what a record without a fault has
@@ -82,6 +83,37 @@ cons-list (Some x) = refl
 
 -- ---- the claims
 
+module _ (rows : List (List (List ℕ))) (r : List (List ℕ)) where
+  -- a part that is claimed at most once
+  once-more : {X : Type 0} (word : List ℕ) (reads : List (List ℕ) → Option X) → (is_kind r word ≡ true → found (of_kind word reads) rows ≡ None)
+      → found (of_kind word reads) (rows ++ r ∷ []) ≡ part_after word r (reads r) (found (of_kind word reads) rows)
+  once-more word reads free = elim (cases_Bool (is_kind r word)) [
+    | inl t ↦ rw t (found-new (of_kind word reads) rows r (reads r) (free t) (rw t refl))
+    | inr f ↦ rw f (found-same (of_kind word reads) rows r (rw f refl))
+  ]
+
+  -- amounts
+  given-more : (word : List ℕ) (names : List (List ℕ)) (periods last : ℕ) → last ≤ periods → (is_kind r word ≡ true → amount_fault names last (amounts_given word names periods rows) r ≡ None)
+      → amounts_given word names periods (rows ++ r ∷ []) ≡ part_after word r (with_amount names (amounts_given word names periods rows) r) (amounts_given word names periods rows)
+  given-more word names periods last few right = elim (cases_Bool (is_kind r word)) [
+    | inl t ↦ rw t (amounts-more word names periods last rows r t few (right t))
+    | inr f ↦ rw f (amounts-same word names periods rows r f)
+  ]
+
+  -- the pivots
+  listed-more : {X : Type 0} (word : List ℕ) (reads : List (List ℕ) → Option X)
+      → filter_map (of_kind word reads) (rows ++ r ∷ []) ≡ part_after word r (filter_map (of_kind word reads) rows ++ option_to_list (reads r)) (filter_map (of_kind word reads) rows)
+  listed-more {X} word reads = elim (cases_Bool (is_kind r word)) [
+    | inl t ↦ rw t (filter_map-append (of_kind word reads) rows (r ∷ []) ∙ rw t (ap (λ (l : List X). filter_map (of_kind word reads) rows ++ l) (cons-list (reads r))))
+    | inr f ↦ rw f (listed-same (of_kind word reads) rows r (rw f refl))
+  ]
+
+-- the last period of a flow is one of those of the text
+last-within : (xs : List ℕ) (most k : ℕ) → All (λ last. last ≤ most) xs → unwrap_or (slice_get xs k) 0 ≤ most
+last-within [] most k h = omega arith
+last-within (x ∷ xs) most zero h = All-head (λ last. last ≤ most) x xs h
+last-within (x ∷ xs) most (suc k) h = last-within xs most k (All-tail (λ last. last ≤ most) x xs h)
+
 claims-eq : (a b : Claims) → a.cost ≡ b.cost → a.gap ≡ b.gap → a.arc ≡ b.arc → a.overflow ≡ b.overflow → a.flows ≡ b.flows → a.prices ≡ b.prices → a.ray ≡ b.ray
     → a.turned ≡ b.turned → a.entries ≡ b.entries → a ≡ b
 claims-eq a b cost gap arc overflow flows prices ray turned entries =
@@ -90,232 +122,61 @@ claims-eq a b cost gap arc overflow flows prices ray turned entries =
     rw (cost, gap, arc, overflow, flows, prices, ray, turned, entries) refl in
     same
 
-module _ (o : Outline) (rows : List (List (List ℕ))) (r : List (List ℕ)) where
-  claims-cost : is_kind r (codes "cost") ≡ true → (found (of_kind (codes "cost") (λ r. fraction_in (field_of r 1))) rows ≡ None)
-      → claims_of o (rows ++ r ∷ []) ≡ record (claims_of o rows) { cost = fraction_in (field_of r 1) }
-  unfolding claims_of
-  claims-cost kind h =
-      let word = kind-is r (codes "cost") kind in
-      claims-eq (claims_of o (rows ++ r ∷ [])) (record (claims_of o rows) { cost = fraction_in (field_of r 1) })
-      (found-new (of_kind (codes "cost") (λ r. fraction_in (field_of r 1))) rows r (fraction_in (field_of r 1)) h (rw kind refl))
-      (found-same (of_kind (codes "gap") (λ r. fraction_in (field_of r 1))) rows r (rw word refl))
-      (found-same (of_kind (codes "arc") (λ r. whole_in (field_of r 1))) rows r (rw word refl))
-      (found-same (of_kind (codes "past") overflow_in) rows r (rw word refl))
-      (amounts-same (codes "flow") o.flows o.periods rows r (rw word refl))
-      (amounts-same (codes "price") o.nodes o.periods rows r (rw word refl))
-      (amounts-same (codes "ray") o.flows o.periods rows r (rw word refl))
-      (found-same (of_kind (codes "turned") (λ r. whole_in (field_of r 1))) rows r (rw word refl))
-      (listed-same (of_kind (codes "pivot") entry_in) rows r (rw word refl))
+-- what is wrong with a record, by its kind
+abbrev fault_by : Outline → Claims → List (List ℕ) → List ℕ → Option PlanCode
+fault_by o t r word =
+    if bytes_eq word (codes "cost") then once_fault 2 (fraction_in (field_of r 1)) t.cost r
+    else if bytes_eq word (codes "gap") then once_fault 2 (fraction_in (field_of r 1)) t.gap r
+    else if bytes_eq word (codes "arc") then once_fault 2 (whole_in (field_of r 1)) t.arc r
+    else if bytes_eq word (codes "past") then once_fault 6 (overflow_in r) t.overflow r
+    else if bytes_eq word (codes "flow") then amount_fault o.flows (last_for o r) t.flows r
+    else if bytes_eq word (codes "price") then amount_fault o.nodes o.periods t.prices r
+    else if bytes_eq word (codes "ray") then amount_fault o.flows (last_for o r) t.ray r
+    else if bytes_eq word (codes "turned") then once_fault 2 (whole_in (field_of r 1)) t.turned r
+    else if bytes_eq word (codes "pivot") then pivot_fault (length t.entries) r
+    else Some code.Unknown
 
-  claims-gap : is_kind r (codes "gap") ≡ true → (found (of_kind (codes "gap") (λ r. fraction_in (field_of r 1))) rows ≡ None)
-      → claims_of o (rows ++ r ∷ []) ≡ record (claims_of o rows) { gap = fraction_in (field_of r 1) }
-  unfolding claims_of
-  claims-gap kind h =
-      let word = kind-is r (codes "gap") kind in
-      claims-eq (claims_of o (rows ++ r ∷ [])) (record (claims_of o rows) { gap = fraction_in (field_of r 1) })
-      (found-same (of_kind (codes "cost") (λ r. fraction_in (field_of r 1))) rows r (rw word refl))
-      (found-new (of_kind (codes "gap") (λ r. fraction_in (field_of r 1))) rows r (fraction_in (field_of r 1)) h (rw kind refl))
-      (found-same (of_kind (codes "arc") (λ r. whole_in (field_of r 1))) rows r (rw word refl))
-      (found-same (of_kind (codes "past") overflow_in) rows r (rw word refl))
-      (amounts-same (codes "flow") o.flows o.periods rows r (rw word refl))
-      (amounts-same (codes "price") o.nodes o.periods rows r (rw word refl))
-      (amounts-same (codes "ray") o.flows o.periods rows r (rw word refl))
-      (found-same (of_kind (codes "turned") (λ r. whole_in (field_of r 1))) rows r (rw word refl))
-      (listed-same (of_kind (codes "pivot") entry_in) rows r (rw word refl))
-
-  claims-arc : is_kind r (codes "arc") ≡ true → (found (of_kind (codes "arc") (λ r. whole_in (field_of r 1))) rows ≡ None)
-      → claims_of o (rows ++ r ∷ []) ≡ record (claims_of o rows) { arc = whole_in (field_of r 1) }
-  unfolding claims_of
-  claims-arc kind h =
-      let word = kind-is r (codes "arc") kind in
-      claims-eq (claims_of o (rows ++ r ∷ [])) (record (claims_of o rows) { arc = whole_in (field_of r 1) })
-      (found-same (of_kind (codes "cost") (λ r. fraction_in (field_of r 1))) rows r (rw word refl))
-      (found-same (of_kind (codes "gap") (λ r. fraction_in (field_of r 1))) rows r (rw word refl))
-      (found-new (of_kind (codes "arc") (λ r. whole_in (field_of r 1))) rows r (whole_in (field_of r 1)) h (rw kind refl))
-      (found-same (of_kind (codes "past") overflow_in) rows r (rw word refl))
-      (amounts-same (codes "flow") o.flows o.periods rows r (rw word refl))
-      (amounts-same (codes "price") o.nodes o.periods rows r (rw word refl))
-      (amounts-same (codes "ray") o.flows o.periods rows r (rw word refl))
-      (found-same (of_kind (codes "turned") (λ r. whole_in (field_of r 1))) rows r (rw word refl))
-      (listed-same (of_kind (codes "pivot") entry_in) rows r (rw word refl))
-
-  claims-overflow : is_kind r (codes "past") ≡ true → (found (of_kind (codes "past") overflow_in) rows ≡ None)
-      → claims_of o (rows ++ r ∷ []) ≡ record (claims_of o rows) { overflow = overflow_in r }
-  unfolding claims_of
-  claims-overflow kind h =
-      let word = kind-is r (codes "past") kind in
-      claims-eq (claims_of o (rows ++ r ∷ [])) (record (claims_of o rows) { overflow = overflow_in r })
-      (found-same (of_kind (codes "cost") (λ r. fraction_in (field_of r 1))) rows r (rw word refl))
-      (found-same (of_kind (codes "gap") (λ r. fraction_in (field_of r 1))) rows r (rw word refl))
-      (found-same (of_kind (codes "arc") (λ r. whole_in (field_of r 1))) rows r (rw word refl))
-      (found-new (of_kind (codes "past") overflow_in) rows r (overflow_in r) h (rw kind refl))
-      (amounts-same (codes "flow") o.flows o.periods rows r (rw word refl))
-      (amounts-same (codes "price") o.nodes o.periods rows r (rw word refl))
-      (amounts-same (codes "ray") o.flows o.periods rows r (rw word refl))
-      (found-same (of_kind (codes "turned") (λ r. whole_in (field_of r 1))) rows r (rw word refl))
-      (listed-same (of_kind (codes "pivot") entry_in) rows r (rw word refl))
-
-  claims-flows : is_kind r (codes "flow") ≡ true → ((last : ℕ) × (last ≤ o.periods) × (amount_fault o.flows last (amounts_given (codes "flow") o.flows o.periods rows) r ≡ None))
-      → claims_of o (rows ++ r ∷ []) ≡ record (claims_of o rows) { flows = with_amount o.flows (amounts_given (codes "flow") o.flows o.periods rows) r }
-  unfolding claims_of
-  claims-flows kind h =
-      let word = kind-is r (codes "flow") kind in
-      claims-eq (claims_of o (rows ++ r ∷ [])) (record (claims_of o rows) { flows = with_amount o.flows (amounts_given (codes "flow") o.flows o.periods rows) r })
-      (found-same (of_kind (codes "cost") (λ r. fraction_in (field_of r 1))) rows r (rw word refl))
-      (found-same (of_kind (codes "gap") (λ r. fraction_in (field_of r 1))) rows r (rw word refl))
-      (found-same (of_kind (codes "arc") (λ r. whole_in (field_of r 1))) rows r (rw word refl))
-      (found-same (of_kind (codes "past") overflow_in) rows r (rw word refl))
-      (amounts-more (codes "flow") o.flows o.periods h.0 rows r kind h.1 h.2)
-      (amounts-same (codes "price") o.nodes o.periods rows r (rw word refl))
-      (amounts-same (codes "ray") o.flows o.periods rows r (rw word refl))
-      (found-same (of_kind (codes "turned") (λ r. whole_in (field_of r 1))) rows r (rw word refl))
-      (listed-same (of_kind (codes "pivot") entry_in) rows r (rw word refl))
-
-  claims-prices : is_kind r (codes "price") ≡ true → ((last : ℕ) × (last ≤ o.periods) × (amount_fault o.nodes last (amounts_given (codes "price") o.nodes o.periods rows) r ≡ None))
-      → claims_of o (rows ++ r ∷ []) ≡ record (claims_of o rows) { prices = with_amount o.nodes (amounts_given (codes "price") o.nodes o.periods rows) r }
-  unfolding claims_of
-  claims-prices kind h =
-      let word = kind-is r (codes "price") kind in
-      claims-eq (claims_of o (rows ++ r ∷ [])) (record (claims_of o rows) { prices = with_amount o.nodes (amounts_given (codes "price") o.nodes o.periods rows) r })
-      (found-same (of_kind (codes "cost") (λ r. fraction_in (field_of r 1))) rows r (rw word refl))
-      (found-same (of_kind (codes "gap") (λ r. fraction_in (field_of r 1))) rows r (rw word refl))
-      (found-same (of_kind (codes "arc") (λ r. whole_in (field_of r 1))) rows r (rw word refl))
-      (found-same (of_kind (codes "past") overflow_in) rows r (rw word refl))
-      (amounts-same (codes "flow") o.flows o.periods rows r (rw word refl))
-      (amounts-more (codes "price") o.nodes o.periods h.0 rows r kind h.1 h.2)
-      (amounts-same (codes "ray") o.flows o.periods rows r (rw word refl))
-      (found-same (of_kind (codes "turned") (λ r. whole_in (field_of r 1))) rows r (rw word refl))
-      (listed-same (of_kind (codes "pivot") entry_in) rows r (rw word refl))
-
-  claims-ray : is_kind r (codes "ray") ≡ true → ((last : ℕ) × (last ≤ o.periods) × (amount_fault o.flows last (amounts_given (codes "ray") o.flows o.periods rows) r ≡ None))
-      → claims_of o (rows ++ r ∷ []) ≡ record (claims_of o rows) { ray = with_amount o.flows (amounts_given (codes "ray") o.flows o.periods rows) r }
-  unfolding claims_of
-  claims-ray kind h =
-      let word = kind-is r (codes "ray") kind in
-      claims-eq (claims_of o (rows ++ r ∷ [])) (record (claims_of o rows) { ray = with_amount o.flows (amounts_given (codes "ray") o.flows o.periods rows) r })
-      (found-same (of_kind (codes "cost") (λ r. fraction_in (field_of r 1))) rows r (rw word refl))
-      (found-same (of_kind (codes "gap") (λ r. fraction_in (field_of r 1))) rows r (rw word refl))
-      (found-same (of_kind (codes "arc") (λ r. whole_in (field_of r 1))) rows r (rw word refl))
-      (found-same (of_kind (codes "past") overflow_in) rows r (rw word refl))
-      (amounts-same (codes "flow") o.flows o.periods rows r (rw word refl))
-      (amounts-same (codes "price") o.nodes o.periods rows r (rw word refl))
-      (amounts-more (codes "ray") o.flows o.periods h.0 rows r kind h.1 h.2)
-      (found-same (of_kind (codes "turned") (λ r. whole_in (field_of r 1))) rows r (rw word refl))
-      (listed-same (of_kind (codes "pivot") entry_in) rows r (rw word refl))
-
-  claims-turned : is_kind r (codes "turned") ≡ true → (found (of_kind (codes "turned") (λ r. whole_in (field_of r 1))) rows ≡ None)
-      → claims_of o (rows ++ r ∷ []) ≡ record (claims_of o rows) { turned = whole_in (field_of r 1) }
-  unfolding claims_of
-  claims-turned kind h =
-      let word = kind-is r (codes "turned") kind in
-      claims-eq (claims_of o (rows ++ r ∷ [])) (record (claims_of o rows) { turned = whole_in (field_of r 1) })
-      (found-same (of_kind (codes "cost") (λ r. fraction_in (field_of r 1))) rows r (rw word refl))
-      (found-same (of_kind (codes "gap") (λ r. fraction_in (field_of r 1))) rows r (rw word refl))
-      (found-same (of_kind (codes "arc") (λ r. whole_in (field_of r 1))) rows r (rw word refl))
-      (found-same (of_kind (codes "past") overflow_in) rows r (rw word refl))
-      (amounts-same (codes "flow") o.flows o.periods rows r (rw word refl))
-      (amounts-same (codes "price") o.nodes o.periods rows r (rw word refl))
-      (amounts-same (codes "ray") o.flows o.periods rows r (rw word refl))
-      (found-new (of_kind (codes "turned") (λ r. whole_in (field_of r 1))) rows r (whole_in (field_of r 1)) h (rw kind refl))
-      (listed-same (of_kind (codes "pivot") entry_in) rows r (rw word refl))
-
-  claims-entries : is_kind r (codes "pivot") ≡ true
-      → claims_of o (rows ++ r ∷ []) ≡ record (claims_of o rows) { entries = filter_map (of_kind (codes "pivot") entry_in) rows ++ option_to_list (entry_in r) }
-  unfolding claims_of
-  claims-entries kind =
-      let word = kind-is r (codes "pivot") kind in
-      claims-eq (claims_of o (rows ++ r ∷ [])) (record (claims_of o rows) { entries = filter_map (of_kind (codes "pivot") entry_in) rows ++ option_to_list (entry_in r) })
-      (found-same (of_kind (codes "cost") (λ r. fraction_in (field_of r 1))) rows r (rw word refl))
-      (found-same (of_kind (codes "gap") (λ r. fraction_in (field_of r 1))) rows r (rw word refl))
-      (found-same (of_kind (codes "arc") (λ r. whole_in (field_of r 1))) rows r (rw word refl))
-      (found-same (of_kind (codes "past") overflow_in) rows r (rw word refl))
-      (amounts-same (codes "flow") o.flows o.periods rows r (rw word refl))
-      (amounts-same (codes "price") o.nodes o.periods rows r (rw word refl))
-      (amounts-same (codes "ray") o.flows o.periods rows r (rw word refl))
-      (found-same (of_kind (codes "turned") (λ r. whole_in (field_of r 1))) rows r (rw word refl))
-      (filter_map-append (of_kind (codes "pivot") entry_in) rows (r ∷ []) ∙ rw kind (ap (λ l. filter_map (of_kind (codes "pivot") entry_in) rows ++ l) (cons-list (entry_in r))))
-
--- the last period of a flow is one of those of the text
-last-within : (xs : List ℕ) (most k : ℕ) → All (λ last. last ≤ most) xs → unwrap_or (slice_get xs k) 0 ≤ most
-last-within [] most k h = omega arith
-last-within (x ∷ xs) most zero h = All-head (λ last. last ≤ most) x xs h
-last-within (x ∷ xs) most (suc k) h = last-within xs most k (All-tail (λ last. last ≤ most) x xs h)
+by-kind : (o : Outline) (t : Claims) (r : List (List ℕ)) (word : List ℕ) → record_fault o t r ≡ None → is_kind r word ≡ true → fault_by o t r word ≡ None
+by-kind o t r word h k =
+    let same : fault_by o t r (field_of r 0) ≡ None = h in
+    subst (λ (w : List ℕ). fault_by o t r w ≡ None) (kind-is r word k) same
 
 pub claims-more : (o : Outline) (rows : List (List (List ℕ))) (r : List (List ℕ)) → IsOutline o → record_fault o (claims_of o rows) r ≡ None
     → claims_of o (rows ++ r ∷ []) ≡ with_record o (claims_of o rows) r
 unfolding claims_of
-claims-more o rows r out h = elim (cases_Bool (is_kind r (codes "cost"))) [
-  | inl t ↦ rw t (claims-cost o rows r t (once-free 2 (fraction_in (field_of r 1)) _ r (rw t at h)))
-  | inr a ↦ elim (cases_Bool (is_kind r (codes "gap"))) [
-    | inl t ↦ rw (a, t) (claims-gap o rows r t (once-free 2 (fraction_in (field_of r 1)) _ r (rw (a, t) at h)))
-    | inr b ↦ elim (cases_Bool (is_kind r (codes "arc"))) [
-      | inl t ↦ rw (a, b, t) (claims-arc o rows r t (once-free 2 (whole_in (field_of r 1)) _ r (rw (a, b, t) at h)))
-      | inr c ↦ elim (cases_Bool (is_kind r (codes "past"))) [
-        | inl t ↦ rw (a, b, c, t) (claims-overflow o rows r t (once-free 6 (overflow_in r) _ r (rw (a, b, c, t) at h)))
-        | inr d ↦ elim (cases_Bool (is_kind r (codes "flow"))) [
-          | inl t ↦ rw (a, b, c, d, t) (claims-flows o rows r t (last_for o r, last-within o.last o.periods (place_in o.flows (field_of r 1)) out.within, rw (a, b, c, d, t) at h))
-          | inr e ↦ elim (cases_Bool (is_kind r (codes "price"))) [
-            | inl t ↦ rw (a, b, c, d, e, t) (claims-prices o rows r t (o.periods, omega arith, rw (a, b, c, d, e, t) at h))
-            | inr f ↦ elim (cases_Bool (is_kind r (codes "ray"))) [
-              | inl t ↦ rw (a, b, c, d, e, f, t) (claims-ray o rows r t (last_for o r, last-within o.last o.periods (place_in o.flows (field_of r 1)) out.within, rw (a, b, c, d, e, f, t) at h))
-              | inr g ↦ elim (cases_Bool (is_kind r (codes "turned"))) [
-                | inl t ↦ rw (a, b, c, d, e, f, g, t) (claims-turned o rows r t (once-free 2 (whole_in (field_of r 1)) _ r (rw (a, b, c, d, e, f, g, t) at h)))
-                | inr i ↦ elim (cases_Bool (is_kind r (codes "pivot"))) [
-                  | inl t ↦ rw (a, b, c, d, e, f, g, i) (claims-entries o rows r t)
-                  | inr j ↦ absurd (cc (rw (a, b, c, d, e, f, g, i, j) at h))
-                ]
-              ]
-            ]
-          ]
-        ]
-      ]
-    ]
-  ]
-]
+claims-more o rows r out h =
+    let t = claims_of o rows in
+    let last = last-within o.last o.periods (place_in o.flows (field_of r 1)) out.within in
+    claims-eq (claims_of o (rows ++ r ∷ [])) (with_record o t r)
+    (once-more rows r (codes "cost") (λ x. fraction_in (field_of x 1)) (λ k. once-free 2 (fraction_in (field_of r 1)) t.cost r (by-kind o t r (codes "cost") h k)))
+    (once-more rows r (codes "gap") (λ x. fraction_in (field_of x 1)) (λ k. once-free 2 (fraction_in (field_of r 1)) t.gap r (by-kind o t r (codes "gap") h k)))
+    (once-more rows r (codes "arc") (λ x. whole_in (field_of x 1)) (λ k. once-free 2 (whole_in (field_of r 1)) t.arc r (by-kind o t r (codes "arc") h k)))
+    (once-more rows r (codes "past") overflow_in (λ k. once-free 6 (overflow_in r) t.overflow r (by-kind o t r (codes "past") h k)))
+    (given-more rows r (codes "flow") o.flows o.periods (last_for o r) last (by-kind o t r (codes "flow") h))
+    (given-more rows r (codes "price") o.nodes o.periods o.periods (omega arith) (by-kind o t r (codes "price") h))
+    (given-more rows r (codes "ray") o.flows o.periods (last_for o r) last (by-kind o t r (codes "ray") h))
+    (once-more rows r (codes "turned") (λ x. whole_in (field_of x 1)) (λ k. once-free 2 (whole_in (field_of r 1)) t.turned r (by-kind o t r (codes "turned") h k)))
+    (listed-more rows r (codes "pivot") entry_in)
 
 -- ---- the pivots stay few
 
-pub few-more : (o : Outline) (t : Claims) (r : List (List ℕ)) → length t.entries ≤ 1000000 → record_fault o t r ≡ None → length (with_record o t r).entries ≤ 1000000
-few-more o t r few h = elim (cases_Bool (is_kind r (codes "cost"))) [
-  | inl x ↦ rw x few
-  | inr a ↦ elim (cases_Bool (is_kind r (codes "gap"))) [
-    | inl x ↦ rw (a, x) few
-    | inr b ↦ elim (cases_Bool (is_kind r (codes "arc"))) [
-      | inl x ↦ rw (a, b, x) few
-      | inr c ↦ elim (cases_Bool (is_kind r (codes "past"))) [
-        | inl x ↦ rw (a, b, c, x) few
-        | inr d ↦ elim (cases_Bool (is_kind r (codes "flow"))) [
-          | inl x ↦ rw (a, b, c, d, x) few
-          | inr e ↦ elim (cases_Bool (is_kind r (codes "price"))) [
-            | inl x ↦ rw (a, b, c, d, e, x) few
-            | inr f ↦ elim (cases_Bool (is_kind r (codes "ray"))) [
-              | inl x ↦ rw (a, b, c, d, e, f, x) few
-              | inr g ↦ elim (cases_Bool (is_kind r (codes "turned"))) [
-                | inl x ↦ rw (a, b, c, d, e, f, g, x) few
-                | inr i ↦ elim (cases_Bool (is_kind r (codes "pivot"))) [
-                  | inl x ↦ rw (a, b, c, d, e, f, g, i) (pivot-few t.entries r (rw (a, b, c, d, e, f, g, i, x) at h))
-                  | inr j ↦ absurd (cc (rw (a, b, c, d, e, f, g, i, j) at h))
-                ]
-              ]
-            ]
-          ]
-        ]
-      ]
-    ]
-  ]
-]
-  where
-    at-most-one : (e : Option Entry) → length (option_to_list e) ≤ 1
-    at-most-one None = omega arith
-    at-most-one (Some x) = omega arith
+at-most-one : (e : Option Entry) → length (option_to_list e) ≤ 1
+at-most-one None = omega arith
+at-most-one (Some x) = omega arith
 
-    pivot-few : (entries : List Entry) (r : List (List ℕ)) → pivot_fault (length entries) r ≡ None → length (entries ++ option_to_list (entry_in r)) ≤ 1000000
-    pivot-few entries r h =
-        let next : is_next (length entries) (field_of r 1) ≡ true = unless-none (is_next (length entries) (field_of r 1)) code.BadNumber (or-first _ _ (or-rest (fields_fault 5 r) _ h)) in
-        let one : (number (field_of r 1) == length entries + 1) ≡ true = and-right (is_number 9 (field_of r 1)) _ (and-left (is_number 9 (field_of r 1) && (number (field_of r 1) == length entries + 1)) _ next) in
-        let few : nat_le (number (field_of r 1)) 1000000 ≡ true = and-right (is_number 9 (field_of r 1) && (number (field_of r 1) == length entries + 1)) _ next in
-        let same : number (field_of r 1) ≡ length entries + 1 = grind (arith, nat_tests) in
-        let most : number (field_of r 1) ≤ 1000000 = grind (arith, nat_tests) in
-        let all = length-append entries (option_to_list (entry_in r)) in
-        let more = at-most-one (entry_in r) in
-        omega arith
+pivot-few : (entries : List Entry) (r : List (List ℕ)) → pivot_fault (length entries) r ≡ None → length (entries ++ option_to_list (entry_in r)) ≤ 1000000
+pivot-few entries r h =
+    let next : is_next (length entries) (field_of r 1) ≡ true = unless-none (is_next (length entries) (field_of r 1)) code.BadNumber (or-first _ _ (or-rest (fields_fault 5 r) _ h)) in
+    let one : (number (field_of r 1) == length entries + 1) ≡ true = and-right (is_number 9 (field_of r 1)) _ (and-left (is_number 9 (field_of r 1) && (number (field_of r 1) == length entries + 1)) _ next) in
+    let few : nat_le (number (field_of r 1)) 1000000 ≡ true = and-right (is_number 9 (field_of r 1) && (number (field_of r 1) == length entries + 1)) _ next in
+    let same : number (field_of r 1) ≡ length entries + 1 = grind (arith, nat_tests) in
+    let most : number (field_of r 1) ≤ 1000000 = grind (arith, nat_tests) in
+    let all = length-append entries (option_to_list (entry_in r)) in
+    let more = at-most-one (entry_in r) in
+    omega arith
+
+pub few-more : (o : Outline) (t : Claims) (r : List (List ℕ)) → length t.entries ≤ 1000000 → record_fault o t r ≡ None → length (with_record o t r).entries ≤ 1000000
+few-more o t r few h = elim (cases_Bool (is_kind r (codes "pivot"))) [
+  | inl k ↦ rw k (pivot-few t.entries r (by-kind o t r (codes "pivot") h k))
+  | inr f ↦ rw f few
+]

@@ -98,7 +98,7 @@ next-fault o verdict before left r two v =
     let there : nat_lt (length before) (length (before ++ r ∷ left)) ≡ true = grind (arith, nat_tests) in
     let not_first : (length before == 0) ≡ false = grind (arith, nat_tests) in
     let not_second : (length before == 1) ≡ false = grind (arith, nat_tests) in
-    rw (there, not_first, not_second, row-here before left r, body-here before (r ∷ left), v) refl
+    rw (there, not_first, not_second, row-here before left r, body-here before (r ∷ left), v) (refl {a = body_fault o (Some verdict) (drop 2 before) r})
 
 pub so_far-fault : (skip : ℕ) (o : Outline) (verdict : Verdict) (rows left : List (List (List ℕ))) (place : ℕ) (t : Claims) (r : List (List ℕ)) → (s : IsSoFar skip o verdict rows (r ∷ left) place t)
     → fault_at o rows (length s.before) ≡ (if is_end r then end_fault verdict t r else record_fault o t r)

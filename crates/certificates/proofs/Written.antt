@@ -1,5 +1,5 @@
 -- The records that are written for a plan have no fault, and are those of the parts that were written.
-use Rattle.std.specs.Prelude.{◌≡◌, ℕ, ◌*◌, ◌&&◌, ◌||◌, Bool, true, false, IsTrue, Option, Some, None, IsSome, IfSome, IsSomeAnd, List, [], ◌∷◌, length, replicate, codes, if◌then◌else◌}
+use Rattle.std.specs.Prelude.{◌≡◌, ℕ, ◌*◌, ◌&&◌, ◌||◌, Bool, true, false, IsTrue, Option, Some, None, IsSome, IfSome, IsSomeAnd, List, [], ◌∷◌, ◌++◌, length, replicate, codes, if◌then◌else◌}
 use Rattle.std.specs.List.{All}
 use Rattle.std.proofs.Common.{refl, sym, ap, subst}
 use Rattle.std.proofs.lemmas.List.{length-map}
@@ -166,9 +166,10 @@ module _ (scheme : Scheme) (plan : Plan) (log : Bool) (fit : PlanFits scheme pla
       let g = record f { ray = ray.0 } in
       let claim : Runs o t (claim_rows parts plan) d = runs-append o _ _ t c d (runs-append o _ _ t b c (runs-append o _ _ t a b cost gap) arc) overflow in
       let shown : Runs o d (shown_rows parts scheme plan) g = runs-append o _ _ d f g (runs-append o _ _ d e f flows.1 prices.1) ray.1 in
+      let last = record g { turned = part_if log plan.log.turned; entries = list_if log plan.log.entries } in
       record {
-        claims = record g { turned = part_if log plan.log.turned; entries = list_if log plan.log.entries };
-        run = runs-append o _ _ t g _ (runs-append o _ _ t d g claim shown) (runs-told o g plan.log log fit.log new.turned new.entries);
+        claims = last;
+        run = runs-append o (claim_rows parts plan ++ shown_rows parts scheme plan) (list_if log (log_rows plan.log)) t g last (runs-append o (claim_rows parts plan) (shown_rows parts scheme plan) t d g claim shown) (runs-told o g plan.log log fit.log new.turned new.entries);
         complete =
             all-four _ _ _ _ (there-if parts.cost plan.amount amount_there) (there-if parts.gap plan.amount gap_there)
             (there-if parts.arc plan.arc (λ asked. some-of IsShortNumber plan.arc (fit.arc asked)))

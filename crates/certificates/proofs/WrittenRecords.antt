@@ -46,22 +46,15 @@ paired-more {X} {Y} f old xs ys i x y e h at_x at_y =
 
 -- ---- the whole
 
-pub joined-two : (old : List ℕ) (a b : List (List (List ℕ))) → old ++ records_text a ++ records_text b ≡ old ++ records_text (a ++ b)
+joined-two : (old : List ℕ) (a b : List (List (List ℕ))) → old ++ records_text a ++ records_text b ≡ old ++ records_text (a ++ b)
 joined-two old a b = append_assoc old (records_text a) (records_text b) ∙ ap (λ (l : List ℕ). old ++ l) (sym (flat_map-append record_text a b))
 
-pub joined-three : (old : List ℕ) (a b c : List (List (List ℕ))) → old ++ records_text a ++ records_text b ++ records_text c ≡ old ++ records_text (a ++ b ++ c)
+joined-three : (old : List ℕ) (a b c : List (List (List ℕ))) → old ++ records_text a ++ records_text b ++ records_text c ≡ old ++ records_text (a ++ b ++ c)
 joined-three old a b c = ap (λ (l : List ℕ). l ++ records_text c) (joined-two old a b) ∙ joined-two old (a ++ b) c
 
-pub joined-four : (old : List ℕ) (a b c d : List (List (List ℕ))) → old ++ records_text a ++ records_text b ++ records_text c ++ records_text d ≡ old ++ records_text (a ++ b ++ c ++ d)
-joined-four old a b c d = ap (λ (l : List ℕ). l ++ records_text d) (joined-three old a b c) ∙ joined-two old (a ++ b ++ c) d
-
 -- each call has added its records
-pub three-more : (old x y z : List ℕ) (a b c : List (List (List ℕ))) → x ≡ old ++ records_text a → y ≡ x ++ records_text b → z ≡ y ++ records_text c → z ≡ old ++ records_text (a ++ b ++ c)
+three-more : (old x y z : List ℕ) (a b c : List (List (List ℕ))) → x ≡ old ++ records_text a → y ≡ x ++ records_text b → z ≡ y ++ records_text c → z ≡ old ++ records_text (a ++ b ++ c)
 three-more old x y z a b c hx hy hz = rw (hz, hy, hx) (joined-three old a b c)
-
-pub four-more : (old x y z w : List ℕ) (a b c d : List (List (List ℕ))) → x ≡ old ++ records_text a → y ≡ x ++ records_text b → z ≡ y ++ records_text c → w ≡ z ++ records_text d
-    → w ≡ old ++ records_text (a ++ b ++ c ++ d)
-four-more old x y z w a b c d hx hy hz hw = rw (hw, hz, hy, hx) (joined-four old a b c d)
 
 pub whole-text : (scheme : Scheme) (plan : Plan) (log : Bool) (a b c d e : List ℕ) → a ≡ [] ++ records_text (head_rows plan.verdict) → b ≡ a ++ records_text (claim_rows (parts_of plan.verdict) plan)
     → c ≡ b ++ records_text (shown_rows (parts_of plan.verdict) scheme plan) → d ≡ c ++ records_text (list_if log (log_rows plan.log))

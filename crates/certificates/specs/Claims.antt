@@ -70,6 +70,7 @@ pub record Claims : Type 0 where
   pub turned : Option ℕ
   pub entries : List Entry
 
+-- what these records claim
 unfoldable pub claims_of : Outline → List (List (List ℕ)) → Claims
 claims_of o rows = record {
   cost = found (of_kind (codes "cost") (λ r. fraction_in (field_of r 1))) rows;

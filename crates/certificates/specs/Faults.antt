@@ -45,6 +45,7 @@ put_fault names last given r =
     ∷ unless (is_free given (place_named names r)) code.Repeated
     ∷ [])
 
+-- a name, and an amount for it
 abbrev pub amount_fault : List (List ℕ) → ℕ → List (Option Ratio) → List (List ℕ) → Option PlanCode
 amount_fault names last given r = option_or (name_fault names r) (put_fault names last given r)
 
@@ -56,6 +57,7 @@ last_for o r = unwrap_or (slice_get o.last (place_in o.flows (field_of r 1))) 0
 abbrev pub is_next : ℕ → List ℕ → Bool
 is_next count bs = is_number 9 bs && (number bs == count + 1) && nat_le (number bs) 1000000
 
+-- the next pivot
 abbrev pub pivot_fault : ℕ → List (List ℕ) → Option PlanCode
 pivot_fault count r =
     first_fault (

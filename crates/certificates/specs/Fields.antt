@@ -25,6 +25,7 @@ fraction_in bs = if is_fraction_text bs then Some (fraction_of bs) else None
 
 -- ---- faults
 
+-- a record has so many fields
 abbrev pub fields_fault : ℕ → List (List ℕ) → Option PlanCode
 fields_fault count r = unless (length r == count) code.FieldCount
 
@@ -32,6 +33,7 @@ fields_fault count r = unless (length r == count) code.FieldCount
 abbrev pub used_fault : List (List ℕ) → List ℕ → Option PlanCode
 used_fault names name = unless (is_some (place_of names name)) code.NoSuchName
 
+-- a period from 1 to the last one
 abbrev pub period_fault : ℕ → List ℕ → Option PlanCode
 period_fault last bs = unless (is_period last bs) code.BadPeriod
 

@@ -21,6 +21,7 @@ use Rattle.certificates.specs.Faults.{record_fault, end_fault}
 
 -- ---- the records at the head
 
+-- the first record of a plan text
 abbrev pub is_header : List (List ℕ) → Bool
 is_header r = (length r == 2) && bytes_eq (field_of r 0) (codes "netplan-plan") && bytes_eq (field_of r 1) (codes "1")
 
@@ -30,6 +31,7 @@ verdict_in r = if (length r == 2) && is_kind r (codes "verdict") then verdict_of
 
 -- ---- the body
 
+-- the record that ends a plan text
 abbrev pub is_end : List (List ℕ) → Bool
 is_end r = is_kind r (codes "end")
 
@@ -67,15 +69,17 @@ body_of rows = body_before rows (length rows - 1)
 abbrev pub amount_at : List (Option Ratio) → ℕ → Ratio
 amount_at given place = unwrap_or (unwrap_or (slice_get given place) None) zero_ratio
 
--- the amounts of the staged arcs, and of the nodes in each period
+-- the amounts of the staged arcs
 abbrev pub staged_amounts : Scheme → List (Option Ratio) → List Ratio
 staged_amounts scheme given = map (λ arc. amount_at given (place_with (length scheme.flows) arc.period arc.flow)) (staged scheme)
 
+-- the amounts of the nodes in each period
 abbrev pub node_amounts : List (Option Ratio) → List Ratio
 node_amounts given = map (λ amount. unwrap_or amount zero_ratio) given
 
 -- ---- the parts that a verdict prints; of the others its plan has nothing
 
+-- a cost or a gap
 abbrev pub claimed_amount : Verdict → Claims → Option Ratio
 claimed_amount verdict claims = if (parts_of verdict).cost then claims.cost else if (parts_of verdict).gap then claims.gap else None
 

@@ -2,3 +2,4 @@
 pub mod Claims
 pub mod Amounts
 pub mod Texts
+pub mod Writing

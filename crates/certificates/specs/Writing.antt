@@ -29,6 +29,7 @@ place_word (place.Arc a) = decimal a
 place_word place.Turn = codes "turn"
 place_word (place.Check row) = check_row_word row
 
+-- the two records at the head
 abbrev pub head_rows : Verdict → List (List (List ℕ))
 head_rows verdict = (codes "netplan-plan" ∷ codes "1" ∷ []) ∷ (codes "verdict" ∷ verdict_word verdict ∷ []) ∷ []
 
@@ -40,6 +41,7 @@ amount_row word amount = word ∷ printed amount ∷ []
 abbrev pub number_row : List ℕ → ℕ → List (List ℕ)
 number_row word number = word ∷ decimal number ∷ []
 
+-- an operation that overflowed, with its row and its place
 abbrev pub past_row : Overflow → List (List ℕ)
 past_row overflow =
     codes "past" ∷ row_word overflow.row ∷ place_word overflow.place ∷ op_word overflow.past.op ∷ printed overflow.past.left ∷ printed overflow.past.right ∷ []
@@ -56,9 +58,11 @@ staged_rows word scheme amounts = map (staged_row word (flow_names scheme.flows)
 abbrev pub price_row : List (List ℕ) → ℕ × Ratio → List (List ℕ)
 price_row nodes (place, price) = codes "price" ∷ name_at nodes (place % length nodes) ∷ decimal (place / length nodes + 1) ∷ printed price ∷ []
 
+-- all prices, in order
 abbrev pub price_rows : Scheme → List Ratio → List (List (List ℕ))
 price_rows scheme prices = map (price_row scheme.nodes) (enumerate_from 0 prices)
 
+-- a pivot with its number
 abbrev pub pivot_row : ℕ × Entry → List (List ℕ)
 pivot_row (number, entry) =
     codes "pivot" ∷ decimal number ∷ decimal entry.enter ∷ decimal entry.leave ∷ mark_word entry.leave_at ∷ []
@@ -75,6 +79,7 @@ log_rows log =
 abbrev pub part_if : {X : Type 0} → Bool → Option X → Option X
 part_if printed part = if printed then part else None
 
+-- a list, where it is printed
 abbrev pub list_if : {X : Type 0} → Bool → List X → List X
 list_if printed items = if printed then items else []
 

@@ -1,6 +1,6 @@
 //! Writing a plan as a plan text.
 
-ghost use Rattle.std.specs.Prelude.{◌≡◌, ◌≤◌, ◌++◌, ◌||◌, IfOk, IfSome, OnOk, IsTrue, length, map};
+ghost use Rattle.std.specs.Prelude.{◌≡◌, ◌≤◌, ◌||◌, [], IfOk, IfSome, OnOk, IsTrue, length, map};
 ghost use Rattle.std.specs.List.{All, zip, enumerate_from};
 ghost use Rattle.np_frac.specs.Fits.{Fits};
 ghost use Rattle.np_records.specs.Records.{records_of};
@@ -9,10 +9,12 @@ ghost use Rattle.np_model.specs.Scheme.Fits.{PlanFits};
 ghost use Rattle.np_model.specs.Scheme.Names.{flow_names};
 ghost use Rattle.np_model.specs.Scheme.Plans.{staged};
 ghost use Rattle.certificates.specs.Reading.{IsReadAs};
+ghost use Rattle.certificates.specs.Steps.Writing.{GrowsBy};
 ghost use Rattle.certificates.specs.Writing.{staged_row, staged_rows, price_row, price_rows, pivot_row, log_rows, part_if, list_if, claim_rows, shown_rows, plan_rows, told, HasFractions};
 
 use crate::rows::{
-    push_amount, push_head, push_number, push_overflow, push_pivot, push_price, push_stage,
+    push_amount, push_end, push_head, push_number, push_overflow, push_pivot, push_price,
+    push_stage,
 };
 use np_frac::{Frac, Memory};
 use np_model::{Entry, Log, Parts, Plan, Scheme};
@@ -30,34 +32,35 @@ fn part_if<T: Drop>(printed: bool, part: Option<T>) -> Option<T>
 }
 
 // Writes what a verdict claims: its cost, its gap, the arc or the operation that overflowed.
-fn push_claim(alloc: Global, text: &mut Text, parts: Parts, plan: &Plan) -> Result<(), Memory>
-    ensures text { OnOk result (text.new.bytes ≡ text.old.bytes ++ records_text (claim_rows parts plan.now)) }
+fn push_claim(text: &mut Text, parts: Parts, plan: &Plan) -> Result<(), Memory>
+    requires { text.old.fields ≡ [] }
+    ensures text { OnOk result (GrowsBy text.old text.new (records_text (claim_rows parts plan.now))) }
     ensures amount { OnOk result (IfSome (part_if (parts.cost || parts.gap) plan.now.amount) Fits) }
     ensures operands { OnOk result (IfSome (part_if parts.overflow plan.now.overflow) (λ overflow. Fits overflow.past.left × Fits overflow.past.right)) }
 {
-    push_amount(alloc, text, b"cost", part_if(parts.cost, plan.amount))?;
-    push_amount(alloc, text, b"gap", part_if(parts.gap, plan.amount))?;
+    push_amount(text, b"cost", part_if(parts.cost, plan.amount))?;
+    push_amount(text, b"gap", part_if(parts.gap, plan.amount))?;
     push_number(text, b"arc", part_if(parts.arc, plan.arc))?;
-    push_overflow(alloc, text, &part_if(parts.overflow, plan.overflow))
+    push_overflow(text, &part_if(parts.overflow, plan.overflow))
 }
 
 // ---- flows, prices and rays
 
 // Writes the amounts of staged arcs.
 fn push_stages(
-    alloc: Global,
     text: &mut Text,
     word: &[u8],
     scheme: &Scheme,
     arcs: &[Staged],
     amounts: &[Frac],
 ) -> Result<(), Memory>
-    requires { length amounts.now ≡ length arcs.now }
-    ensures text { OnOk result (text.new.bytes ≡ text.old.bytes ++ records_text (map (staged_row word.now (flow_names scheme.now.flows)) (zip arcs.now amounts.now))) }
+    requires paired { length amounts.now ≡ length arcs.now }
+    requires closed { text.old.fields ≡ [] }
+    ensures text { OnOk result (GrowsBy text.old text.new (records_text (map (staged_row word.now (flow_names scheme.now.flows)) (zip arcs.now amounts.now)))) }
     ensures fits { OnOk result (All Fits amounts.now) }
 {
     for (place, arc) in arcs.iter().enumerate() {
-        push_stage(alloc, text, word, scheme, arc, amounts[place])?;
+        push_stage(text, word, scheme, arc, amounts[place])?;
     }
     Ok(())
 }
@@ -71,57 +74,47 @@ fn push_staged(
     scheme: &Scheme,
     amounts: &[Frac],
 ) -> Result<(), Memory>
-    requires { IsTrue printed → length amounts.now ≡ length (staged scheme.now) }
-    ensures text { OnOk result (text.new.bytes ≡ text.old.bytes ++ records_text (list_if printed (staged_rows word.now scheme.now amounts.now))) }
+    requires all { IsTrue printed → length amounts.now ≡ length (staged scheme.now) }
+    requires closed { text.old.fields ≡ [] }
+    ensures text { OnOk result (GrowsBy text.old text.new (records_text (list_if printed (staged_rows word.now scheme.now amounts.now)))) }
     ensures fits { OnOk result (All Fits (list_if printed amounts.now)) }
 {
     if !printed {
         return Ok(());
     }
     let expanded = expand_periods(alloc, scheme)?;
-    push_stages(
-        alloc,
-        text,
-        word,
-        scheme,
-        expanded.staged.as_slice(),
-        amounts,
-    )
+    push_stages(text, word, scheme, expanded.staged.as_slice(), amounts)
 }
 
 // Writes prices.
-fn push_prices(
-    alloc: Global,
-    text: &mut Text,
-    scheme: &Scheme,
-    prices: &[Frac],
-) -> Result<(), Memory>
-    requires { length prices.now ≡ length scheme.now.supply }
-    ensures text { OnOk result (text.new.bytes ≡ text.old.bytes ++ records_text (price_rows scheme.now prices.now)) }
+fn push_prices(text: &mut Text, scheme: &Scheme, prices: &[Frac]) -> Result<(), Memory>
+    requires all { length prices.now ≡ length scheme.now.supply }
+    requires closed { text.old.fields ≡ [] }
+    ensures text { OnOk result (GrowsBy text.old text.new (records_text (price_rows scheme.now prices.now))) }
     ensures fits { OnOk result (All Fits prices.now) }
 {
     for (place, price) in prices.iter().enumerate() {
-        push_price(alloc, text, scheme, place, *price)?;
+        push_price(text, scheme, place, *price)?;
     }
     Ok(())
 }
 
 // Writes the prices, where they are printed.
 fn push_all_prices(
-    alloc: Global,
     text: &mut Text,
     printed: bool,
     scheme: &Scheme,
     prices: &[Frac],
 ) -> Result<(), Memory>
-    requires { IsTrue printed → length prices.now ≡ length scheme.now.supply }
-    ensures text { OnOk result (text.new.bytes ≡ text.old.bytes ++ records_text (list_if printed (price_rows scheme.now prices.now))) }
+    requires all { IsTrue printed → length prices.now ≡ length scheme.now.supply }
+    requires closed { text.old.fields ≡ [] }
+    ensures text { OnOk result (GrowsBy text.old text.new (records_text (list_if printed (price_rows scheme.now prices.now)))) }
     ensures fits { OnOk result (All Fits (list_if printed prices.now)) }
 {
     if !printed {
         return Ok(());
     }
-    push_prices(alloc, text, scheme, prices)
+    push_prices(text, scheme, prices)
 }
 
 // Writes what a verdict shows: its flows, its prices and its ray.
@@ -135,7 +128,8 @@ fn push_shown(
     requires flows { IsTrue parts.flows → length plan.now.flows ≡ length (staged scheme.now) }
     requires prices { IsTrue parts.prices → length plan.now.prices ≡ length scheme.now.supply }
     requires ray { IsTrue parts.ray → length plan.now.ray ≡ length (staged scheme.now) }
-    ensures text { OnOk result (text.new.bytes ≡ text.old.bytes ++ records_text (shown_rows parts scheme.now plan.now)) }
+    requires closed { text.old.fields ≡ [] }
+    ensures text { OnOk result (GrowsBy text.old text.new (records_text (shown_rows parts scheme.now plan.now))) }
     ensures flows { OnOk result (All Fits (list_if parts.flows plan.now.flows)) }
     ensures prices { OnOk result (All Fits (list_if parts.prices plan.now.prices)) }
     ensures ray { OnOk result (All Fits (list_if parts.ray plan.now.ray)) }
@@ -143,7 +137,7 @@ fn push_shown(
     let flows = plan.flows.as_slice();
     push_staged(alloc, text, parts.flows, b"flow", scheme, flows)?;
     let prices = plan.prices.as_slice();
-    push_all_prices(alloc, text, parts.prices, scheme, prices)?;
+    push_all_prices(text, parts.prices, scheme, prices)?;
     let ray = plan.ray.as_slice();
     push_staged(alloc, text, parts.ray, b"ray", scheme, ray)
 }
@@ -152,8 +146,9 @@ fn push_shown(
 
 // Writes the pivots, numbered from 1.
 fn push_pivots(text: &mut Text, entries: &[Entry]) -> Result<(), Memory>
-    requires { length entries.now ≤ 1000000 }
-    ensures { OnOk result (text.new.bytes ≡ text.old.bytes ++ records_text (map pivot_row (enumerate_from 1 entries.now))) }
+    requires few { length entries.now ≤ 1000000 }
+    requires closed { text.old.fields ≡ [] }
+    ensures { OnOk result (GrowsBy text.old text.new (records_text (map pivot_row (enumerate_from 1 entries.now)))) }
 {
     for (before, entry) in entries.iter().enumerate() {
         push_pivot(text, before + 1, entry)?;
@@ -163,8 +158,9 @@ fn push_pivots(text: &mut Text, entries: &[Entry]) -> Result<(), Memory>
 
 // Writes the log where it is asked for.
 fn push_log(text: &mut Text, log: &Log, asked: bool) -> Result<(), Memory>
-    requires { length log.now.entries ≤ 1000000 }
-    ensures { OnOk result (text.new.bytes ≡ text.old.bytes ++ records_text (list_if asked (log_rows log.now))) }
+    requires few { length log.now.entries ≤ 1000000 }
+    requires closed { text.old.fields ≡ [] }
+    ensures { OnOk result (GrowsBy text.old text.new (records_text (list_if asked (log_rows log.now)))) }
 {
     if !asked {
         return Ok(());
@@ -198,9 +194,9 @@ pub fn plan_text(alloc: Global, scheme: &Scheme, plan: &Plan, log: bool) -> Resu
     let parts = plan.verdict.parts();
     let mut text = Text::new(alloc);
     push_head(&mut text, plan.verdict)?;
-    push_claim(alloc, &mut text, parts, plan)?;
+    push_claim(&mut text, parts, plan)?;
     push_shown(alloc, &mut text, parts, scheme, plan)?;
     push_log(&mut text, &plan.log, log)?;
-    text.push(&[b"end".as_slice()])?;
+    push_end(&mut text)?;
     text.into_bytes()
 }

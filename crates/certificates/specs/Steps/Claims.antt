@@ -46,15 +46,20 @@ ClaimsBecome (Err why) fault new made = StopsFor why fault
 abbrev pub with_amount : List (List ℕ) → List (Option Ratio) → List (List ℕ) → List (Option Ratio)
 with_amount names given r = set given (place_named names r) (fraction_in (field_of r 3))
 
+-- a part after a record, which changes it where it is of this kind
+abbrev pub part_after : {X : Type 0} → List ℕ → List (List ℕ) → X → X → X
+part_after word r new old = if is_kind r word then new else old
+
 -- the claims with those of a record more
 abbrev pub with_record : Outline → Claims → List (List ℕ) → Claims
-with_record o claims r =
-    if is_kind r (codes "cost") then record claims { cost = fraction_in (field_of r 1) }
-    else if is_kind r (codes "gap") then record claims { gap = fraction_in (field_of r 1) }
-    else if is_kind r (codes "arc") then record claims { arc = whole_in (field_of r 1) }
-    else if is_kind r (codes "past") then record claims { overflow = overflow_in r }
-    else if is_kind r (codes "flow") then record claims { flows = with_amount o.flows claims.flows r }
-    else if is_kind r (codes "price") then record claims { prices = with_amount o.nodes claims.prices r }
-    else if is_kind r (codes "ray") then record claims { ray = with_amount o.flows claims.ray r }
-    else if is_kind r (codes "turned") then record claims { turned = whole_in (field_of r 1) }
-    else record claims { entries = claims.entries ++ option_to_list (entry_in r) }
+with_record o claims r = record {
+  cost = part_after (codes "cost") r (fraction_in (field_of r 1)) claims.cost;
+  gap = part_after (codes "gap") r (fraction_in (field_of r 1)) claims.gap;
+  arc = part_after (codes "arc") r (whole_in (field_of r 1)) claims.arc;
+  overflow = part_after (codes "past") r (overflow_in r) claims.overflow;
+  flows = part_after (codes "flow") r (with_amount o.flows claims.flows r) claims.flows;
+  prices = part_after (codes "price") r (with_amount o.nodes claims.prices r) claims.prices;
+  ray = part_after (codes "ray") r (with_amount o.flows claims.ray r) claims.ray;
+  turned = part_after (codes "turned") r (whole_in (field_of r 1)) claims.turned;
+  entries = part_after (codes "pivot") r (claims.entries ++ option_to_list (entry_in r)) claims.entries;
+}

@@ -1,4 +1,4 @@
-use Rattle.std.proofs.Common.{rules, ◌≡◌, ◌*◌, [], ◌∷◌}
+use Rattle.std.proofs.Common.{rules, ◌≡◌, ◌*◌}
 use Rattle.std.specs.Prelude.{replicate}
 use Rattle.std.proofs.lemmas.List.{length-replicate}
 use Rattle.np_frac.specs.Ratio.{zero_ratio}

@@ -1,4 +1,4 @@
-use Rattle.std.proofs.Common.{rules, ◌∙◌, ◌≡◌, [], codes, subst}
+use Rattle.std.proofs.Common.{rules, ◌∙◌, ◌≡◌, [], subst}
 use Rattle.std.proofs.lemmas.Result.{IfOk-weaker}
 use Rattle.np_model.specs.declared.plan.Parts.{Parts}
 use Rattle.np_model.specs.Scheme.Verdicts.{parts_of}
@@ -8,13 +8,12 @@ use Rattle.certificates.proofs.WrittenRecords.{whole-text}
 use Rattle.certificates.proofs.WrittenTexts.{text-back}
 use Rattle.certificates.proofs.writing.plan_text.Goals as goal
 
-written : (c : goal.After-into_bytes) → c.push.new.self.bytes ≡ records_text (plan_rows c.args.scheme.now c.args.plan.now c.args.log)
+written : (c : goal.After-into_bytes) → c.push_end.new.text.bytes ≡ records_text (plan_rows c.args.scheme.now c.args.plan.now c.args.log)
 written c =
     let empty : c.new-text.result.bytes ≡ [] = search rules in
-    let word : c.as_slice.result.now ≡ codes "end" = search rules in
     let parts : c.parts-parts.result ≡ parts_of c.args.plan.now.verdict = c.parts-parts.ensures in
-    whole-text c.args.scheme.now c.args.plan.now c.args.log c.push_head.new.text.bytes c.push_claim.new.text.bytes c.push_shown.new.text.bytes c.push_log.new.text.bytes c.push.new.self.bytes
-    (rw empty at c.in_ok-push_head.ensures) (rw parts at c.in_ok-push_claim.ensures.text) (rw parts at c.in_ok-push_shown.ensures.text) c.in_ok-push_log.ensures (rw word at c.in_ok-push.ensures.text)
+    whole-text c.args.scheme.now c.args.plan.now c.args.log c.push_head.new.text.bytes c.push_claim.new.text.bytes c.push_shown.new.text.bytes c.push_log.new.text.bytes c.push_end.new.text.bytes
+    (rw empty at c.in_ok-push_head.ensures.bytes) (rw parts at c.in_ok-push_claim.ensures.text.bytes) (rw parts at c.in_ok-push_shown.ensures.text.bytes) c.in_ok-push_log.ensures.bytes c.in_ok-push_end.ensures.bytes
 
 pub returns-clause-text : goal.returns-clause-text
 returns-clause-text c = IfOk-weaker c.into_bytes.result _ _ (λ bytes e. e ∙ written c) c.into_bytes.ensures.text

@@ -17,10 +17,10 @@ loop-before-preserved c =
     let none : Entry = record { enter = 0; leave = 0; leave_at = mark.Lower } in
     let pivot = get_or entries before none in
     let more = numbered-more pivot_row c.args.text.now.bytes 1 entries before (before + 1) pivot (omega arith) within (get_or_default entries before none pivot within) in
-    c.in_ok-push_pivot.ensures ∙ rw c.loop-before.invariant more
+    record { bytes = c.in_ok-push_pivot.ensures.bytes ∙ rw c.loop-before.invariant.bytes more; closed = c.in_ok-push_pivot.ensures.closed }
 
 pub returns : goal.returns
 returns c =
     let all = enumerate_from 1 c.args.entries.now in
     let whole : length all ≤ c.loop-before.before = omega (arith, length-enumerate_from 1 c.args.entries.now, c.loop-before-test.false) in
-    c.loop-before.invariant ∙ text-all pivot_row c.args.text.now.bytes all c.loop-before.before whole
+    record { bytes = c.loop-before.invariant.bytes ∙ text-all pivot_row c.args.text.now.bytes all c.loop-before.before whole; closed = c.loop-before.invariant.closed }

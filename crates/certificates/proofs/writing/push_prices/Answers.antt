@@ -15,7 +15,7 @@ loop-place-preserved c =
     let within = c.loop-place-test.true in
     let more = numbered-more (price_row c.args.scheme.now.nodes) c.args.text.now.bytes 0 prices place place c.index-prices-place.result (omega arith) within c.index-prices-place.is in
     record {
-      text = c.in_ok-push_price.ensures.text ∙ rw c.loop-place.invariant.text more;
+      text = record { bytes = c.in_ok-push_price.ensures.text.bytes ∙ rw c.loop-place.invariant.text.bytes more; closed = c.in_ok-push_price.ensures.text.closed };
       fits = All-more Fits prices place c.index-prices-place.result within c.loop-place.invariant.fits (subst Fits c.index-prices-place.is c.in_ok-push_price.ensures.fits);
     }
 
@@ -23,7 +23,7 @@ pub returns-clause-text : goal.returns-clause-text
 returns-clause-text c =
     let all = enumerate_from 0 c.args.prices.now in
     let whole : length all ≤ c.loop-place.place = omega (arith, length-enumerate_from 0 c.args.prices.now, c.loop-place-test.false) in
-    c.loop-place.invariant.text ∙ text-all (price_row c.args.scheme.now.nodes) c.args.text.now.bytes all c.loop-place.place whole
+    record { bytes = c.loop-place.invariant.text.bytes ∙ text-all (price_row c.args.scheme.now.nodes) c.args.text.now.bytes all c.loop-place.place whole; closed = c.loop-place.invariant.text.closed }
 
 pub returns-clause-fits : goal.returns-clause-fits
 returns-clause-fits c = subst (All Fits) (take_all c.loop-place.place c.args.prices.now c.loop-place-test.false) c.loop-place.invariant.fits
