@@ -239,7 +239,7 @@ fn accepts_the_empty_network(rt: HostRuntime) -> Result<(), Fail> {
 }
 
 #[test]
-fn tells_what_passes(rt: HostRuntime) -> Result<(), Fail> {
+fn tells_what_overflows(rt: HostRuntime) -> Result<(), Fail> {
     // 171 arcs bring the greatest amount into B, times the greatest gain: 170 of these products are below 2^127.
     let alloc = rt.alloc();
     let mut input = String::new(alloc);
