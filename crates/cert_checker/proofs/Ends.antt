@@ -1,5 +1,5 @@
 -- The walk is never short of memory.
-use Rattle.std.specs.Prelude.{◌≡◌, ℕ, ⊤, Bool, true, false, not, ◌&&◌, ◌||◌, if◌then◌else◌, Option, Some, None, Result, Ok, Err, List, [], ◌∷◌, length, map}
+use Rattle.std.specs.Prelude.{ℕ, ⊤, Bool, true, false, not, ◌&&◌, ◌||◌, if◌then◌else◌, Option, Some, None, Result, Ok, Err, List, [], ◌∷◌, length, map}
 use Rattle.std.specs.List.{zip, enumerate_from}
 use Rattle.std.proofs.Common.{subst}
 use Rattle.np_frac.specs.Ratio.{Ratio, zero_ratio, is_below}

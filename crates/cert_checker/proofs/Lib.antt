@@ -4,7 +4,6 @@ pub mod Balances
 pub mod Ends
 pub mod Exact
 pub mod First
-pub mod Made
 pub mod Pairs
 pub mod Segments
 pub mod Theorem

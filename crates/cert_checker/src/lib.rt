@@ -14,8 +14,6 @@ mod segment;
 mod staged;
 #[cfg(test)]
 mod tests;
-#[cfg(test)]
-mod valid;
 mod walk;
 
 pub use answer::{CheckRefusal, Checked, Clause};

@@ -1,11 +1,11 @@
 ghost use Rattle.std.specs.Prelude.{IfOk};
 ghost use Rattle.np_model.specs.Scheme.Fits.{PlanFits};
 
-use crate::valid::{plan_of, scheme_of};
 use crate::{CheckRefusal, Checked, Clause, check};
 use np_frac::{Frac, read_amount};
 use np_model::{
-    Band, Bands, CheckRow, Flow, FlowKind, Flows, Fracs, Name, Names, Plan, Scheme, Upper, Verdict,
+    Band, Bands, CheckRow, Entries, Flow, FlowKind, Flows, Fracs, Log, Name, Names, Plan, Scheme,
+    Upper, Verdict,
 };
 use std::alloc::Global;
 use std::process::Abort;
@@ -71,9 +71,9 @@ const ENDED: &str = "1 ; 2 ; S ; link 0 1 2 0 inf 0 ; link 1 0 1 0 10 0 ; drain 
 const ENDED_ROWS: &str = "0 0 > unbounded ; 0 0 0 ;  ; 1 2 1 > reject ray-upper 1 1";
 
 // The third supply has no common denominator of 128 bits with the first two.
-const PAST: &str = "1 ; 3 ; S";
+const OVERFLOWS: &str = "1 ; 3 ; S";
 
-const PAST_ROWS: &str =
+const OVERFLOWS_ROWS: &str =
     "1/9999999999999999999 1/9999999999999999998 1/9999999999999999997 > infeasible 1 ;  ; 1 1 1 > past C5";
 
 fn number(text: &str) -> Result<Frac, Fail> {
@@ -157,12 +157,13 @@ fn scheme(alloc: Global, text: &str) -> Result<Scheme, Fail> {
         let next = flow(alloc, flows.len(), part)?;
         flows.push(next)?;
     }
-    let made = scheme_of(
+    let made = Scheme::new(
+        alloc,
         periods,
         Names { items: nodes },
         supply,
         Flows { items: flows },
-    );
+    )?;
     Ok(made.ok_or("not a valid scheme")?)
 }
 
@@ -178,6 +179,15 @@ fn verdict(text: &str) -> Verdict {
     }
 }
 
+fn no_log(alloc: Global) -> Log {
+    Log {
+        turned: None,
+        entries: Entries {
+            items: Vec::new(alloc),
+        },
+    }
+}
+
 fn plan(alloc: Global, scheme: &Scheme, text: &str) -> Result<Plan, Fail>
     ensures { IfOk result (PlanFits scheme.now) }
 {
@@ -188,10 +198,20 @@ fn plan(alloc: Global, scheme: &Scheme, text: &str) -> Result<Plan, Fail>
     let flows = numbers(alloc, parts.next().unwrap_or(""))?;
     let prices = numbers(alloc, parts.next().unwrap_or(""))?;
     let ray = numbers(alloc, parts.next().unwrap_or(""))?;
-    match plan_of(alloc, scheme, verdict, amount, flows, prices, ray)? {
-        Some(plan) => Ok(plan),
-        None => Err(Fail::from("a plan that does not fit")),
+    let plan = Plan {
+        verdict,
+        amount,
+        flows,
+        prices,
+        ray,
+        arc: Some(0),
+        overflow: None,
+        log: no_log(alloc),
+    };
+    if !plan.fits(scheme) {
+        return Err(Fail::from("a plan that does not fit"));
     }
+    Ok(plan)
 }
 
 fn clause(text: &str) -> Clause {
@@ -284,6 +304,6 @@ fn knows_that_there_is_no_least_plan(rt: HostRuntime) -> Result<(), Fail> {
 }
 
 #[test]
-fn tells_what_passes(rt: HostRuntime) -> Result<(), Fail> {
-    expect(&rt, rt.alloc(), PAST, PAST_ROWS)
+fn tells_what_overflows(rt: HostRuntime) -> Result<(), Fail> {
+    expect(&rt, rt.alloc(), OVERFLOWS, OVERFLOWS_ROWS)
 }
