@@ -58,7 +58,7 @@ pub(crate) fn no_amounts(
     Ok(vec![in alloc; None; names.len() * periods as usize]?)
 }
 
-/// ClaimsBecome the amount of a record for the name with this number.
+/// Takes the amount of a record for the name with this number.
 pub(crate) fn put(
     given: &mut Vec<Option<Frac>>,
     names: &NameTable,

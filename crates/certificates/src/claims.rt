@@ -63,7 +63,7 @@ fn is_next(count: usize, bytes: &[u8]) -> bool
     }
 }
 
-// ClaimsBecome what a record with this many fields gives for a part that is claimed at most once.
+// Takes what a record with this many fields gives for a part that is claimed at most once.
 fn put_once<T: Drop>(
     part: &mut Option<T>,
     given: Option<T>,
@@ -108,7 +108,7 @@ impl Draft {
         })
     }
 
-    // ClaimsBecome a cost.
+    // Takes a cost.
     fn cost(&mut self, row: &ByteRecord) -> Result<(), Stop>
         ensures { ClaimsBecome result (once_fault 2 (fraction_in (field_of (fields_of row.now) 1)) self.old.cost (fields_of row.now)) self.new
             (record self.old { cost = fraction_in (field_of (fields_of row.now) 1) }) }
@@ -117,7 +117,7 @@ impl Draft {
         Ok(())
     }
 
-    // ClaimsBecome a gap.
+    // Takes a gap.
     fn gap(&mut self, row: &ByteRecord) -> Result<(), Stop>
         ensures { ClaimsBecome result (once_fault 2 (fraction_in (field_of (fields_of row.now) 1)) self.old.gap (fields_of row.now)) self.new
             (record self.old { gap = fraction_in (field_of (fields_of row.now) 1) }) }
@@ -126,7 +126,7 @@ impl Draft {
         Ok(())
     }
 
-    // ClaimsBecome the arc at which the budget ended.
+    // Takes the arc at which the budget ended.
     fn arc(&mut self, row: &ByteRecord) -> Result<(), Stop>
         ensures { ClaimsBecome result (once_fault 2 (whole_in (field_of (fields_of row.now) 1)) self.old.arc (fields_of row.now)) self.new
             (record self.old { arc = whole_in (field_of (fields_of row.now) 1) }) }
@@ -135,7 +135,7 @@ impl Draft {
         Ok(())
     }
 
-    // ClaimsBecome the operation that overflowed.
+    // Takes the operation that overflowed.
     fn past(&mut self, row: &ByteRecord) -> Result<(), Stop>
         ensures { ClaimsBecome result (once_fault 6 (overflow_in (fields_of row.now)) self.old.overflow (fields_of row.now)) self.new
             (record self.old { overflow = overflow_in (fields_of row.now) }) }
@@ -144,7 +144,7 @@ impl Draft {
         Ok(())
     }
 
-    // ClaimsBecome the number of pivots before the second stage.
+    // Takes the number of pivots before the second stage.
     fn turned(&mut self, row: &ByteRecord) -> Result<(), Stop>
         ensures { ClaimsBecome result (once_fault 2 (whole_in (field_of (fields_of row.now) 1)) self.old.turned (fields_of row.now)) self.new
             (record self.old { turned = whole_in (field_of (fields_of row.now) 1) }) }
@@ -161,7 +161,7 @@ impl Draft {
         Ok(())
     }
 
-    // ClaimsBecome a pivot.
+    // Takes a pivot.
     fn pivot(&mut self, row: &ByteRecord) -> Result<(), Stop>
         requires { length self.old.entries ≤ 1000000 }
         ensures { ClaimsBecome result (pivot_fault (length self.old.entries) (fields_of row.now)) self.new
@@ -175,7 +175,7 @@ impl Draft {
         }
     }
 
-    // ClaimsBecome the amount of a flow.
+    // Takes the amount of a flow.
     fn flow(&mut self, index: &Index, row: &ByteRecord) -> Result<(), Stop>
         requires outline { IsOutline index.now }
         requires places { HasAmountPlaces index.now self.old }
@@ -193,7 +193,7 @@ impl Draft {
         Ok(())
     }
 
-    // ClaimsBecome the price of a node.
+    // Takes the price of a node.
     fn price(&mut self, index: &Index, row: &ByteRecord) -> Result<(), Stop>
         requires outline { IsOutline index.now }
         requires places { HasAmountPlaces index.now self.old }
@@ -205,7 +205,7 @@ impl Draft {
         Ok(())
     }
 
-    // ClaimsBecome the amount of a flow along the ray.
+    // Takes the amount of a flow along the ray.
     fn ray(&mut self, index: &Index, row: &ByteRecord) -> Result<(), Stop>
         requires outline { IsOutline index.now }
         requires places { HasAmountPlaces index.now self.old }
@@ -217,7 +217,7 @@ impl Draft {
         Ok(())
     }
 
-    /// ClaimsBecome a record of the body, other than `end`.
+    /// Takes a record of the body, other than `end`.
     pub(crate) fn take(&mut self, index: &Index, row: &ByteRecord) -> Result<(), Stop>
         requires outline { IsOutline index.now }
         requires places { HasAmountPlaces index.now self.old }

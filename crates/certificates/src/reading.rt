@@ -93,7 +93,7 @@ fn take_end(draft: &Draft, verdict: Verdict, row: &ByteRecord) -> Result<(), Pla
     Err(PlanCode::Missing)
 }
 
-// ClaimsBecome the record with this number, and tells whether it was `end`.
+// Takes the record with this number, and tells whether it was `end`.
 fn take(
     draft: &mut Draft,
     index: &Index,

@@ -1,12 +1,9 @@
 //! The fields of network texts.
 
 ghost use Rattle.std.specs.Prelude.{◌≡◌, ◌<◌, true, IfOk, length, Some, None};
-ghost use Rattle.std.specs.List.{list_all};
 ghost use Rattle.np_frac.specs.Text.{number};
 ghost use Rattle.np_frac.specs.Amount.{amount_of, is_amount};
 ghost use Rattle.np_records.specs.Names.{place_in};
-ghost use Rattle.std.specs.Char.{is_ascii_graphic};
-ghost use Rattle.np_model.specs.Scheme.Names.{is_name};
 ghost use Rattle.np_model.specs.Scheme.Valid.{is_amount_or_infinite};
 ghost use Rattle.csv.specs.Records.{fields_of};
 ghost use Rattle.np_records.specs.Faults.{Reads};
@@ -14,7 +11,7 @@ ghost use Rattle.net_csv.specs.Fields.{amount_fault, upper_fault, upper_of, gain
 
 use crate::refused::Code;
 use np_frac::{Frac, read_amount};
-use np_model::Upper;
+use np_model::{Upper, is_name};
 use np_records::{ByteRecord, NameTable};
 
 /// An amount.
@@ -59,24 +56,6 @@ pub(crate) fn period(periods: u32, bytes: &[u8]) -> Result<Option<u32>, Code>
         Some(period) => Ok(Some(period)),
         None => Err(Code::BadPeriod),
     }
-}
-
-// Whether each byte prints and is no space.
-fn are_graphic(bytes: &[u8]) -> bool
-    ensures { result ≡ list_all is_ascii_graphic bytes.now }
-{
-    bytes.iter().all(|byte| byte.is_ascii_graphic())
-}
-
-// Whether these bytes are a name.
-fn is_name(bytes: &[u8]) -> bool
-    ensures { result ≡ is_name bytes.now }
-{
-    let size = bytes.len();
-    if size == 0 || 64 < size {
-        return false;
-    }
-    are_graphic(bytes)
 }
 
 /// Looks whether a name may be defined.

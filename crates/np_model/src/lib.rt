@@ -22,3 +22,4 @@ pub use network::Net;
 pub use plan::{Parts, Plan, Verdict};
 pub use rows::{CheckRow, Overflow, Place, Row};
 pub use scheme::{Band, Flow, FlowKind, Scheme};
+pub use valid::is_name;
