@@ -40,7 +40,7 @@ fn push(amount: Frac, amounts: &mut Vec<Frac>) -> Result<(), Memory>
 
 /// The amount of each staged arc: the sum of the flows of its segments, from the first on. The flows are those of the
 /// arcs that [`flatten`](crate::flatten) gives, and bounds play no part. [`GatherRefusal::Past`] exactly where one of
-/// these sums passes, with the first addition that does.
+/// these sums overflows, with the first addition that does.
 pub fn gather(alloc: Global, expanded: &Expanded, flows: &[Frac]) -> Result<Fracs, GatherRefusal>
     requires { length flows.now ≡ length (flat_arcs expanded.now.staged) }
     ensures { Gathers result (gathered expanded.now.staged flows.now) }

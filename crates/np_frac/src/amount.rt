@@ -9,7 +9,9 @@ use crate::frac::Frac;
 
 // What the numerator and the denominator of a short amount are below, and the denominator of a decimal.
 const SHORT_NUM: u128 = 1_000_000_000_000_000_000;
+
 const SHORT_DEN: u128 = 10_000_000_000_000_000_000;
+
 const BILLION: u128 = 1_000_000_000;
 
 /// The upper and the lower number of an amount, from its whole number and what stands behind that.

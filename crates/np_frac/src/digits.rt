@@ -53,7 +53,7 @@ pub fn split_at_mark(unsigned: &[u8]) -> (&[u8], &[u8])
     unsigned.split_at(place)
 }
 
-/// The text of at most `most` bytes, without a leading `+`, which `parse` would pass over.
+/// The text of at most `most` bytes, without a leading `+`, which `parse` would skip.
 fn plain_text(digits: &[u8], most: usize) -> Option<&str>
     ensures { MatchOption result (¬ (IsNumber most digits.now)) (λ text. (text.now ≡ digits.now) × (length digits.now ≤ most) × (length digits.now ≡ 0 ⊎ slice_index digits.now 0 ≢ 43)) }
 {

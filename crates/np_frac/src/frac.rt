@@ -377,7 +377,7 @@ mod tests {
         };
         assert!(rt; most.plus(one) == Err(past));
         assert!(rt; most.minus(one) == Ok(frac(MOST - 1, 1)?));
-        // The sum of the numerators passes before it is reduced.
+        // The sum of the numerators overflows before it is reduced.
         let half_most = frac(MOST, 2)?;
         assert!(rt; half_most.plus(half_most).is_err());
         // The product fits once it is cancelled across.

@@ -1,9 +1,9 @@
 -- A log fits where each of its pivots does.
-use Rattle.std.specs.Prelude.{◌≡◌, ℕ, zero, suc, ◌+◌, ◌<◌, ◌≤◌, List, [], ◌∷◌, length, get_or, take}
+use Rattle.std.specs.Prelude.{◌≡◌, ℕ, zero, suc, ◌<◌, ◌≤◌, List, [], ◌∷◌, length, get_or, take}
 use Rattle.std.specs.List.{All, AllByRecursion}
 use Rattle.std.proofs.Common.{arith, subst}
 use Rattle.std.proofs.lemmas.List.{take_all}
-use Rattle.std.proofs.lemmas.List.Elements.{recursion_from_All, All-from_recursion, All-more}
+use Rattle.std.proofs.lemmas.List.Elements.{recursion_from_All, All-from_recursion}
 use Rattle.np_model.specs.declared.log.Entry.{Entry}
 use Rattle.np_model.specs.declared.log.Log.{Log}
 use Rattle.np_model.specs.declared.log.Mark.TheVariants as mark

@@ -1,8 +1,7 @@
 -- How many staged arcs a scheme has: those of each flow over the periods.
-use Rattle.std.specs.Prelude.{◌≡◌, ◌≢◌, ℕ, zero, suc, ◌+◌, ◌-◌, ◌*◌, ◌<◌, ◌≤◌, ◌==◌, ◌&&◌, Bool, true, false, if◌then◌else◌, List, [], ◌∷◌, length, sum_by}
-use Rattle.std.specs.List.{filter_map, flat_map, enumerate_from, range_with_len}
-use Rattle.std.proofs.Common.{refl, sym, ap, ◌∙◌, inl, inr, arith, ne_eqb, eq-eqb}
-use Rattle.std.proofs.lemmas.Bool.{cases_eq, cases_Bool}
+use Rattle.std.specs.Prelude.{◌≡◌, ℕ, zero, suc, ◌+◌, ◌-◌, ◌==◌, ◌&&◌, Bool, true, false, if◌then◌else◌, List, [], ◌∷◌, length, sum_by}
+use Rattle.std.specs.List.{filter_map, enumerate_from, range_with_len}
+use Rattle.std.proofs.Common.{refl, sym, ap, ◌∙◌, arith, ne_eqb, eq-eqb}
 use Rattle.std.proofs.lemmas.List.Sums.{sum_by-cons}
 use Rattle.std.proofs.lemmas.List.Concat.{length-flat_map}
 use Rattle.np_model.specs.declared.scheme.FlowKind.{FlowKind}
@@ -11,7 +10,6 @@ use Rattle.np_model.specs.declared.scheme.Flow.{Flow}
 use Rattle.np_model.specs.declared.scheme.Scheme.{Scheme}
 use Rattle.np_model.specs.Scheme.Kinds.{is_hold, periods_of}
 use Rattle.np_model.specs.Scheme.Plans.{stage_of, staged}
-use Rattle.np_model.specs.Scheme.Valid.{expanded_arcs}
 
 -- whether a flow has an arc in a period, as a number
 abbrev one_in : ℕ → FlowKind → ℕ → ℕ

@@ -1,8 +1,8 @@
 -- The tests of a scheme hold exactly of what is a scheme.
-use Rattle.std.specs.Prelude.{◌≡◌, ◌≢◌, ◌↔◌, ℕ, ◌+◌, ◌*◌, ◌^◌, ◌<◌, ◌≤◌, ◌==◌, ◌&&◌, not, nat_lt, nat_le, Bool, true, false, ⊤, IsTrue, List, [], ◌∷◌, length, map}
-use Rattle.std.specs.List.{All, AllByRecursion, AllPass, IsDistinct, list_all}
+use Rattle.std.specs.Prelude.{◌≡◌, ℕ, ◌==◌, ◌&&◌, not, nat_lt, true, false, List, [], ◌∷◌, length}
+use Rattle.std.specs.List.{AllByRecursion, IsDistinct, list_all}
 use Rattle.std.specs.Str.{bytes_eq}
-use Rattle.std.proofs.Common.{refl, sym, subst, ◌∙◌, arith}
+use Rattle.std.proofs.Common.{refl, sym, ◌∙◌, arith}
 use Rattle.std.proofs.lemmas.Bool.{and_parts}
 use Rattle.std.proofs.lemmas.Bool.Decides.{nat_tests}
 use Rattle.std.proofs.lemmas.List.Sums.{AllPass-from_list_all, list_all-from_AllPass}
@@ -17,12 +17,12 @@ use Rattle.np_model.specs.declared.scheme.FlowKind.{FlowKind}
 use Rattle.np_model.specs.declared.scheme.FlowKind.TheVariants.{Link, Hold, Drain, Feed}
 use Rattle.np_model.specs.declared.scheme.Band.{Band}
 use Rattle.np_model.specs.declared.scheme.Flow.{Flow}
-use Rattle.np_model.specs.Network.Arcs.{is_finite, IsAtMost, is_at_most, IsUnder, is_under}
-use Rattle.np_model.specs.Scheme.Names.{is_name, AreNames, flow_names}
+use Rattle.np_model.specs.Network.Arcs.{IsAtMost, is_at_most, IsUnder, is_under}
+use Rattle.np_model.specs.Scheme.Names.{is_name, flow_names}
 use Rattle.np_model.specs.Scheme.Kinds.{JoinsNodes, HasGain}
 use Rattle.np_model.specs.Scheme.Segments.{AreReached, IsConvexFrom}
-use Rattle.np_model.specs.Scheme.Valid.{has_amounts, IsSound, expanded_arcs, IsScheme}
-use Rattle.np_model.specs.Steps.Tests.{joins_nodes, has_gain, go_on, is_sound, HasSize, AreTested}
+use Rattle.np_model.specs.Scheme.Valid.{has_amounts, IsSound, IsScheme}
+use Rattle.np_model.specs.Steps.Tests.{joins_nodes, has_gain, go_on, is_sound, AreTested}
 
 -- ---- tests of ratios
 

@@ -1,4 +1,4 @@
-use Rattle.std.proofs.Common.{◌≡◌, ◌∙◌, sym, ap, arith, List, ℕ}
+use Rattle.std.proofs.Common.{◌∙◌, sym, ap, arith, List, ℕ}
 use Rattle.std.specs.List.{sum_by}
 use Rattle.std.proofs.lemmas.List.{take_all}
 use Rattle.np_model.specs.declared.scheme.Flow.{Flow}

@@ -1,5 +1,5 @@
-use Rattle.std.proofs.Common.{◌≡◌, sym, ap, arith, rules, refl, ◌∙◌, get_or}
-use Rattle.np_model.proofs.Distinct.{new-none, new-more, not-new, new-all}
+use Rattle.std.proofs.Common.{◌≡◌, arith, refl, get_or}
+use Rattle.np_model.proofs.Distinct.{new-none, new-more, not-new}
 use Rattle.np_model.proofs.valid.are_distinct.Goals as goal
 
 pub loop-i-init : goal.loop-i-init
