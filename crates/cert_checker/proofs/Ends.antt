@@ -15,7 +15,7 @@ use Rattle.np_model.specs.declared.plan.Verdict.TheVariants as verdict
 use Rattle.np_model.specs.Network.Arcs.{is_finite, is_at_most, is_under}
 use Rattle.np_model.specs.Scheme.Segments.{Stage, Segment, segments, last_end}
 use Rattle.np_model.specs.Scheme.Plans.{staged}
-use Rattle.cert_checker.specs.Walk.{tested, refused_if, or_then, first_refusal, outflow_of, reject_node, node_clause, balance_clauses, end_of, reject_stage, bound_clause, reduced_of, left_test, right_test, reduced_clause, cost_of, cost_clause, upper_clause, end_clause, gap_of, gap_clause, ray_clause, ray_balance_clauses, ray_cost_of, ray_cost_clause, feasible_refusal, shown_refusal, optimal_refusal, infeasible_refusal, falling_refusal, unbounded_refusal, with_stage_ends, amount_of, accepted_unless, walk, walk_as}
+use Rattle.cert_checker.specs.Walk.{tested, refused_if, or_then, first_refusal, outflow_of, reject_node, node_clause, balance_clauses, end_of, reject_stage, bound_clause, reduced_of, left_test, right_test, reduced_clause, cost_of, cost_clause, upper_clause, end_clause, gap_of, gap_clause, ray_clause, ray_balance_clauses, ray_cost_of, ray_cost_clause, feasible_refusal, shown_refusal, optimal_refusal, infeasible_refusal, falling_refusal, unbounded_refusal, with_stage_ends, claimed_amount, accepted_unless, walk, walk_as}
 use Rattle.cert_checker.specs.Laws.{WalkEnds}
 use Rattle.cert_checker.specs.declared.answer.Checked.{Checked}
 use Rattle.cert_checker.specs.declared.answer.Checked.TheVariants as checked
@@ -150,11 +150,11 @@ accepted_ends (Some r) answer h = h
 
 ends_as : (v : Verdict) (scheme : Scheme) (plan : Plan) → EndsOf (walk_as v scheme plan)
 ends_as verdict.Optimal scheme plan =
-    accepted_ends (optimal_refusal (length scheme.nodes) scheme.supply (staged scheme) plan.flows plan.prices (amount_of plan)) (checked.Optimal (amount_of plan))
-    (optimal_ends (length scheme.nodes) scheme.supply (staged scheme) plan.flows plan.prices (amount_of plan))
+    accepted_ends (optimal_refusal (length scheme.nodes) scheme.supply (staged scheme) plan.flows plan.prices (claimed_amount plan)) (checked.Optimal (claimed_amount plan))
+    (optimal_ends (length scheme.nodes) scheme.supply (staged scheme) plan.flows plan.prices (claimed_amount plan))
 ends_as verdict.Infeasible scheme plan =
-    accepted_ends (infeasible_refusal scheme.supply (staged scheme) plan.prices (amount_of plan)) (checked.Infeasible (amount_of plan))
-    (infeasible_ends scheme.supply (staged scheme) plan.prices (amount_of plan))
+    accepted_ends (infeasible_refusal scheme.supply (staged scheme) plan.prices (claimed_amount plan)) (checked.Infeasible (claimed_amount plan))
+    (infeasible_ends scheme.supply (staged scheme) plan.prices (claimed_amount plan))
 ends_as verdict.Unbounded scheme plan =
     accepted_ends (unbounded_refusal (length scheme.nodes) scheme.supply (staged scheme) plan.flows plan.ray) checked.Unbounded
     (unbounded_ends (length scheme.nodes) scheme.supply (staged scheme) plan.flows plan.ray)

@@ -11,7 +11,7 @@ use Rattle.np_model.specs.declared.plan.Plan.{Plan}
 use Rattle.np_model.specs.Scheme.Segments.{Stage}
 use Rattle.np_model.specs.Scheme.Plans.{staged, scheme_cost, price_gap, IsFeasiblePlan}
 use Rattle.np_model.specs.Scheme.Fits.{FitsAs, PlanFits}
-use Rattle.cert_checker.specs.Walk.{walk, walk_as, amount_of, feasible_refusal, shown_refusal, optimal_refusal, infeasible_refusal, falling_refusal, unbounded_refusal, accepted_unless, UnlessMemory}
+use Rattle.cert_checker.specs.Walk.{walk, walk_as, claimed_amount, feasible_refusal, shown_refusal, optimal_refusal, infeasible_refusal, falling_refusal, unbounded_refusal, accepted_unless, UnlessMemory}
 use Rattle.np_model.specs.Network.Arcs.{AreNodes}
 use Rattle.cert_checker.specs.Proves.{ProvesOptimal, ProvesInfeasible, ProvesUnbounded, Proves}
 use Rattle.cert_checker.specs.Laws.{WalkProves, AcceptsOrOverflows, AcceptsOptimal, AcceptsInfeasible, AcceptsUnbounded}
@@ -31,19 +31,19 @@ joined_prices scheme p e =
     subst (λ (n : ℕ). AllByRecursion (λ (s : Stage). AreNodes n s.ends) (staged scheme)) (sym e) (recursion_from_All (λ s. AreNodes (length scheme.supply) s.ends) (staged scheme) (staged_joined scheme))
 
 proves_optimal : (scheme : Scheme) (plan : Plan) → FitsAs verdict.Optimal scheme plan → feasible_refusal (length scheme.nodes) scheme.supply (staged scheme) plan.flows ≡ None
-    → shown_refusal (staged scheme) plan.flows plan.prices (amount_of plan) ≡ None → ProvesOptimal scheme plan (amount_of plan)
+    → shown_refusal (staged scheme) plan.flows plan.prices (claimed_amount plan) ≡ None → ProvesOptimal scheme plan (claimed_amount plan)
 proves_optimal scheme plan fits feasible shown =
     let is_feasible : IsFeasiblePlan scheme plan.flows = feasible_by_walk (length scheme.nodes) scheme.supply (staged scheme) plan.flows (fits.flows refl) feasible in
-    let shows = shown_by_walk scheme.supply (staged scheme) plan.prices plan.flows (amount_of plan) (fits.prices refl) (joined_prices scheme plan.prices (fits.prices refl)) shown in
+    let shows = shown_by_walk scheme.supply (staged scheme) plan.prices plan.flows (claimed_amount plan) (fits.prices refl) (joined_prices scheme plan.prices (fits.prices refl)) shown in
     record {
       least = prices_prove scheme plan.prices plan.flows is_feasible shows;
-      cost_is = cost_by_walk scheme.supply (staged scheme) plan.prices plan.flows (amount_of plan) shown;
+      cost_is = cost_by_walk scheme.supply (staged scheme) plan.prices plan.flows (claimed_amount plan) shown;
       shown = shows;
     }
 
-proves_infeasible : (scheme : Scheme) (plan : Plan) → FitsAs verdict.Infeasible scheme plan → infeasible_refusal scheme.supply (staged scheme) plan.prices (amount_of plan) ≡ None → ProvesInfeasible scheme plan (amount_of plan)
+proves_infeasible : (scheme : Scheme) (plan : Plan) → FitsAs verdict.Infeasible scheme plan → infeasible_refusal scheme.supply (staged scheme) plan.prices (claimed_amount plan) ≡ None → ProvesInfeasible scheme plan (claimed_amount plan)
 proves_infeasible scheme plan fits none =
-    let forbids = forbidden_by_walk scheme.supply (staged scheme) plan.prices (amount_of plan) (fits.prices refl) (joined_prices scheme plan.prices (fits.prices refl)) none in
+    let forbids = forbidden_by_walk scheme.supply (staged scheme) plan.prices (claimed_amount plan) (fits.prices refl) (joined_prices scheme plan.prices (fits.prices refl)) none in
     record { forbid = forbids.0; gap_is = forbids.1; none = prices_exclude scheme plan.prices forbids.0 }
 
 proves_unbounded : (scheme : Scheme) (plan : Plan) → FitsAs verdict.Unbounded scheme plan → feasible_refusal (length scheme.nodes) scheme.supply (staged scheme) plan.flows ≡ None
@@ -59,11 +59,11 @@ accepted (Some r) x answer e = absurd (cc e)
 
 proves_as : (v : Verdict) (scheme : Scheme) (plan : Plan) (answer : Checked) → FitsAs v scheme plan → walk_as v scheme plan ≡ Ok answer → Proves scheme plan answer
 proves_as verdict.Optimal scheme plan answer fits e =
-    let found = accepted (optimal_refusal (length scheme.nodes) scheme.supply (staged scheme) plan.flows plan.prices (amount_of plan)) (checked.Optimal (amount_of plan)) answer e in
-    let parts = both_none (feasible_refusal (length scheme.nodes) scheme.supply (staged scheme) plan.flows) (shown_refusal (staged scheme) plan.flows plan.prices (amount_of plan)) found.0 in
+    let found = accepted (optimal_refusal (length scheme.nodes) scheme.supply (staged scheme) plan.flows plan.prices (claimed_amount plan)) (checked.Optimal (claimed_amount plan)) answer e in
+    let parts = both_none (feasible_refusal (length scheme.nodes) scheme.supply (staged scheme) plan.flows) (shown_refusal (staged scheme) plan.flows plan.prices (claimed_amount plan)) found.0 in
     subst (λ (a : Checked). Proves scheme plan a) found.1 (proves_optimal scheme plan fits parts.0 parts.1)
 proves_as verdict.Infeasible scheme plan answer fits e =
-    let found = accepted (infeasible_refusal scheme.supply (staged scheme) plan.prices (amount_of plan)) (checked.Infeasible (amount_of plan)) answer e in
+    let found = accepted (infeasible_refusal scheme.supply (staged scheme) plan.prices (claimed_amount plan)) (checked.Infeasible (claimed_amount plan)) answer e in
     subst (λ (a : Checked). Proves scheme plan a) found.1 (proves_infeasible scheme plan fits found.0)
 proves_as verdict.Unbounded scheme plan answer fits e =
     let found = accepted (unbounded_refusal (length scheme.nodes) scheme.supply (staged scheme) plan.flows plan.ray) checked.Unbounded answer e in
@@ -83,26 +83,26 @@ proves_by_walk law scheme plan (Err r) fits told = tt
 
 -- ---- what is accepted
 
-amount_is : (plan : Plan) (r : Ratio) → plan.amount ≡ Some r → r ≡ amount_of plan
+amount_is : (plan : Plan) (r : Ratio) → plan.amount ≡ Some r → r ≡ claimed_amount plan
 amount_is plan r e = sym (ap (λ (o : Option Ratio). unwrap_or o zero_ratio) e)
 
 pub accepts_optimal : AcceptsOptimal
 accepts_optimal scheme plan fits is feasible shows amount =
     let cost = amount_is plan (scheme_cost scheme plan.flows) amount in
     let nodes = joined_prices scheme plan.prices ((optimal_fits scheme plan is fits).prices refl) in
-    let told = accepts (optimal_refusal (length scheme.nodes) scheme.supply (staged scheme) plan.flows plan.prices (amount_of plan)) (checked.Optimal (amount_of plan))
-    (optimal_accepts scheme.supply (staged scheme) plan.prices plan.flows (length scheme.nodes) (amount_of plan) nodes feasible shows cost) in
+    let told = accepts (optimal_refusal (length scheme.nodes) scheme.supply (staged scheme) plan.flows plan.prices (claimed_amount plan)) (checked.Optimal (claimed_amount plan))
+    (optimal_accepts scheme.supply (staged scheme) plan.prices plan.flows (length scheme.nodes) (claimed_amount plan) nodes feasible shows cost) in
     subst (λ (r : Ratio). AcceptsOrOverflows (walk scheme plan) (checked.Optimal r)) (sym cost)
-    (subst (λ (w : Result Checked CheckRefusal). AcceptsOrOverflows w (checked.Optimal (amount_of plan))) (sym (walk_optimal scheme plan is)) told)
+    (subst (λ (w : Result Checked CheckRefusal). AcceptsOrOverflows w (checked.Optimal (claimed_amount plan))) (sym (walk_optimal scheme plan is)) told)
 
 pub accepts_infeasible : AcceptsInfeasible
 accepts_infeasible scheme plan fits is forbids amount =
     let gap = amount_is plan (price_gap scheme plan.prices) amount in
     let nodes = joined_prices scheme plan.prices ((infeasible_fits scheme plan is fits).prices refl) in
-    let told = accepts (infeasible_refusal scheme.supply (staged scheme) plan.prices (amount_of plan)) (checked.Infeasible (amount_of plan))
-    (infeasible_accepts scheme.supply (staged scheme) plan.prices (amount_of plan) nodes forbids gap) in
+    let told = accepts (infeasible_refusal scheme.supply (staged scheme) plan.prices (claimed_amount plan)) (checked.Infeasible (claimed_amount plan))
+    (infeasible_accepts scheme.supply (staged scheme) plan.prices (claimed_amount plan) nodes forbids gap) in
     subst (λ (r : Ratio). AcceptsOrOverflows (walk scheme plan) (checked.Infeasible r)) (sym gap)
-    (subst (λ (w : Result Checked CheckRefusal). AcceptsOrOverflows w (checked.Infeasible (amount_of plan))) (sym (walk_infeasible scheme plan is)) told)
+    (subst (λ (w : Result Checked CheckRefusal). AcceptsOrOverflows w (checked.Infeasible (claimed_amount plan))) (sym (walk_infeasible scheme plan is)) told)
 
 pub accepts_unbounded : AcceptsUnbounded
 accepts_unbounded scheme plan fits is falls =

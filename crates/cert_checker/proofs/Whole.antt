@@ -10,7 +10,7 @@ use Rattle.np_model.specs.declared.plan.Plan.{Plan}
 use Rattle.np_model.specs.Scheme.Segments.{Stage}
 use Rattle.np_model.specs.Scheme.Plans.{staged}
 use Rattle.np_model.specs.Scheme.Fits.{FitsAs, PlanFits}
-use Rattle.cert_checker.specs.Walk.{walk, walk_as, amount_of, or_then, feasible_refusal, shown_refusal, optimal_refusal, infeasible_refusal, falling_refusal, unbounded_refusal, accepted_unless, goes_on_unless, UnlessMemory}
+use Rattle.cert_checker.specs.Walk.{walk, walk_as, claimed_amount, or_then, feasible_refusal, shown_refusal, optimal_refusal, infeasible_refusal, falling_refusal, unbounded_refusal, accepted_unless, goes_on_unless, UnlessMemory}
 use Rattle.np_model.specs.Network.Arcs.{AreNodes}
 use Rattle.cert_checker.specs.Steps.Parts.{EndsFit}
 use Rattle.cert_checker.specs.Steps.Arcs.{as_stage}
@@ -37,12 +37,12 @@ unbounded_fits scheme plan e fits = subst (λ (v : Verdict). FitsAs v scheme pla
 -- ---- the walk of each verdict
 
 pub walk_optimal : (scheme : Scheme) (plan : Plan) → plan.verdict ≡ verdict.Optimal
-    → walk scheme plan ≡ accepted_unless (optimal_refusal (length scheme.nodes) scheme.supply (staged scheme) plan.flows plan.prices (amount_of plan)) (checked.Optimal (amount_of plan))
+    → walk scheme plan ≡ accepted_unless (optimal_refusal (length scheme.nodes) scheme.supply (staged scheme) plan.flows plan.prices (claimed_amount plan)) (checked.Optimal (claimed_amount plan))
 unfolding walk
 walk_optimal scheme plan e = ap (λ (v : Verdict). walk_as v scheme plan) e
 
 pub walk_infeasible : (scheme : Scheme) (plan : Plan) → plan.verdict ≡ verdict.Infeasible
-    → walk scheme plan ≡ accepted_unless (infeasible_refusal scheme.supply (staged scheme) plan.prices (amount_of plan)) (checked.Infeasible (amount_of plan))
+    → walk scheme plan ≡ accepted_unless (infeasible_refusal scheme.supply (staged scheme) plan.prices (claimed_amount plan)) (checked.Infeasible (claimed_amount plan))
 unfolding walk
 walk_infeasible scheme plan e = ap (λ (v : Verdict). walk_as v scheme plan) e
 
@@ -94,12 +94,12 @@ module _ (scheme : Scheme) (plan : Plan) (arcs items : List StagedArc) (listed :
       in
       subst (λ (o : Option CheckRefusal). UnlessMemory res (goes_on_unless o)) same told
 
-  pub shown_told : (x p : List Ratio) (cost : Ratio) (res : Result (Unit {0}) CheckRefusal) → x ≡ plan.flows → p ≡ plan.prices → cost ≡ amount_of plan → res ≡ goes_on_unless (shown_refusal (map as_stage arcs) x p cost)
-      → res ≡ goes_on_unless (shown_refusal (staged scheme) plan.flows plan.prices (amount_of plan))
+  pub shown_told : (x p : List Ratio) (cost : Ratio) (res : Result (Unit {0}) CheckRefusal) → x ≡ plan.flows → p ≡ plan.prices → cost ≡ claimed_amount plan → res ≡ goes_on_unless (shown_refusal (map as_stage arcs) x p cost)
+      → res ≡ goes_on_unless (shown_refusal (staged scheme) plan.flows plan.prices (claimed_amount plan))
   shown_told x p cost res a b c told = rw (← a, ← b, ← c, ← stages_are) told
 
-  pub forbidden_told : (supply p : List Ratio) (gap : Ratio) (res : Result (Unit {0}) CheckRefusal) → supply ≡ scheme.supply → p ≡ plan.prices → gap ≡ amount_of plan → res ≡ goes_on_unless (infeasible_refusal supply (map as_stage arcs) p gap)
-      → res ≡ goes_on_unless (infeasible_refusal scheme.supply (staged scheme) plan.prices (amount_of plan))
+  pub forbidden_told : (supply p : List Ratio) (gap : Ratio) (res : Result (Unit {0}) CheckRefusal) → supply ≡ scheme.supply → p ≡ plan.prices → gap ≡ claimed_amount plan → res ≡ goes_on_unless (infeasible_refusal supply (map as_stage arcs) p gap)
+      → res ≡ goes_on_unless (infeasible_refusal scheme.supply (staged scheme) plan.prices (claimed_amount plan))
   forbidden_told supply p gap res a b c told = rw (← a, ← b, ← c, ← stages_are) told
 
   pub falling_told : (k : ℕ) (supply d : List Ratio) (res : Result (Unit {0}) CheckRefusal) → k ≡ length scheme.nodes → supply ≡ scheme.supply → d ≡ plan.ray → UnlessMemory res (goes_on_unless (falling_refusal k supply (map as_stage arcs) d))

@@ -235,8 +235,8 @@ falling_refusal k supply stages d =
 abbrev pub unbounded_refusal : ℕ → List Ratio → List Stage → List Ratio → List Ratio → Option CheckRefusal
 unbounded_refusal k supply stages x d = or_then (feasible_refusal k supply stages x) (falling_refusal k supply stages d)
 
-abbrev pub amount_of : Plan → Ratio
-amount_of plan = unwrap_or plan.amount zero_ratio
+abbrev pub claimed_amount : Plan → Ratio
+claimed_amount plan = unwrap_or plan.amount zero_ratio
 
 abbrev pub accepted_unless : {A : Type 0} → Option CheckRefusal → A → Result A CheckRefusal
 accepted_unless None x = Ok x
@@ -249,9 +249,9 @@ goes_on_unless refusal = accepted_unless refusal tt
 -- what the checker answers on a plan of each verdict
 abbrev pub walk_as : Verdict → Scheme → Plan → Result Checked CheckRefusal
 walk_as verdict.Optimal scheme plan =
-    accepted_unless (optimal_refusal (length scheme.nodes) scheme.supply (staged scheme) plan.flows plan.prices (amount_of plan)) (Optimal (amount_of plan))
+    accepted_unless (optimal_refusal (length scheme.nodes) scheme.supply (staged scheme) plan.flows plan.prices (claimed_amount plan)) (Optimal (claimed_amount plan))
 walk_as verdict.Infeasible scheme plan =
-    accepted_unless (infeasible_refusal scheme.supply (staged scheme) plan.prices (amount_of plan)) (Infeasible (amount_of plan))
+    accepted_unless (infeasible_refusal scheme.supply (staged scheme) plan.prices (claimed_amount plan)) (Infeasible (claimed_amount plan))
 walk_as verdict.Unbounded scheme plan =
     accepted_unless (unbounded_refusal (length scheme.nodes) scheme.supply (staged scheme) plan.flows plan.ray) Unbounded
 walk_as verdict.Budget scheme plan = Err (Reject Uncertified None 0)

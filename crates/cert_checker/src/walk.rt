@@ -5,7 +5,7 @@ ghost use Rattle.std.specs.List.{All};
 ghost use Rattle.np_frac.specs.Ratio.{zero_ratio};
 ghost use Rattle.np_model.specs.declared.plan.Verdict.TheVariants as verdict;
 ghost use Rattle.np_model.specs.Scheme.Fits.{PlanFits};
-ghost use Rattle.cert_checker.specs.Walk.{walk, amount_of, feasible_refusal, shown_refusal, infeasible_refusal, falling_refusal, goes_on_unless, UnlessMemory};
+ghost use Rattle.cert_checker.specs.Walk.{walk, claimed_amount, feasible_refusal, shown_refusal, infeasible_refusal, falling_refusal, goes_on_unless, UnlessMemory};
 ghost use Rattle.cert_checker.specs.declared.answer.Checked.TheVariants as checked;
 ghost use Rattle.cert_checker.specs.Steps.Arcs.{as_stage};
 ghost use Rattle.cert_checker.specs.Steps.Parts.{EndsFit};
@@ -39,7 +39,7 @@ use std::alloc::Global;
 pub fn check(alloc: Global, scheme: &Scheme, plan: &Plan) -> Result<Checked, CheckRefusal>
     requires fits { PlanFits scheme.now plan.now }
     ensures walk { UnlessMemory result (walk scheme.now plan.now) }
-    ensures optimal { plan.now.verdict ≡ verdict.Optimal → IfOk result (λ answer. answer ≡ checked.Optimal (amount_of plan.now)) }
+    ensures optimal { plan.now.verdict ≡ verdict.Optimal → IfOk result (λ answer. answer ≡ checked.Optimal (claimed_amount plan.now)) }
     ensures proves { IfOk result (Proves scheme.now plan.now) }
 {
     walk_proves();
@@ -68,7 +68,7 @@ fn check_optimal(alloc: Global, scheme: &Scheme, plan: &Plan) -> Result<Checked,
     requires is { plan.now.verdict ≡ verdict.Optimal }
     requires fits { PlanFits scheme.now plan.now }
     ensures walk { UnlessMemory result (walk scheme.now plan.now) }
-    ensures optimal { IfOk result (λ answer. answer ≡ checked.Optimal (amount_of plan.now)) }
+    ensures optimal { IfOk result (λ answer. answer ≡ checked.Optimal (claimed_amount plan.now)) }
 {
     let cost = plan.amount.unwrap_or(Frac::whole(0));
     let staged = staged_arcs(alloc, scheme)?;

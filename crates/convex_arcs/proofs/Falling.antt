@@ -17,7 +17,7 @@ use Rattle.np_model.specs.Scheme.Segments.{AreReached, Stage, hull, last_end, la
 use Rattle.period_expand.specs.Expansion.{IsSoundStage, segment_count}
 use Rattle.convex_arcs.specs.Segments.{band_arc, segment_arcs, flat_arcs}
 use Rattle.convex_arcs.specs.Gathered.{amounts_of}
-use Rattle.convex_arcs.specs.Filled.{FallsOnBothSides}
+use Rattle.convex_arcs.specs.Filled.{GatheredFalls}
 use Rattle.convex_arcs.proofs.Exactly.{balances, sum_split}
 use Rattle.convex_arcs.proofs.Bounds.{are_feasible, all_split, amounts-length}
 use Rattle.convex_arcs.proofs.Costs.{paid}
@@ -120,7 +120,7 @@ of_stages n (s ∷ stages) d h e k =
           ∙ sym (sum_split paid (segment_arcs s) (flat_arcs stages) d (omega arith));
     }
 
-pub falls_on_both_sides : FallsOnBothSides
+pub falls_on_both_sides : GatheredFalls
 falls_on_both_sides supply stages flows d h ray =
     let sound = recursion_from_All (IsSoundStage (length supply)) stages h.sound in
     let some = recursion_from_All (λ q. zero_ratio ≤ᵣ q) d ray.not_negative in

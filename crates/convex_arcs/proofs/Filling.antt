@@ -20,7 +20,7 @@ use Rattle.np_model.proofs.Convex.{lesser_within, lesser_least, under_end_after,
 use Rattle.period_expand.specs.Expansion.{IsSoundStage, IsExpansion, segment_count}
 use Rattle.convex_arcs.specs.Segments.{band_arc, segment_arcs, flat_arcs}
 use Rattle.convex_arcs.specs.Gathered.{amounts_of}
-use Rattle.convex_arcs.specs.Filled.{filled, filled_flows, FilledIsFeasible, FilledCostsTheSame, FilledGathersBack, LeastOnBothSides, LeastPlansFill}
+use Rattle.convex_arcs.specs.Filled.{filled, filled_flows, FilledIsFeasible, FilledCostsTheSame, FilledGathersBack, GatheredIsLeast, LeastPlansFill}
 use Rattle.convex_arcs.proofs.Exactly.{balances}
 use Rattle.convex_arcs.proofs.Bounds.{Keeps, are_feasible}
 use Rattle.convex_arcs.proofs.Costs.{without, paid, priced, cost_no_more}
@@ -182,7 +182,7 @@ valid_each : (n : ℕ) (stages : List Stage) → AllByRecursion (IsSoundStage n)
 valid_each n [] h = tt
 valid_each n (s ∷ stages) h = (h.0.convex, valid_each n stages h.1)
 
-pub least_on_both_sides : LeastOnBothSides
+pub least_on_both_sides : GatheredIsLeast
 least_on_both_sides supply stages flows h l =
     let sound = recursion_from_All (IsSoundStage (length supply)) stages h.sound in
     let valid = All-from_recursion IsValid stages (valid_each (length supply) stages sound) in

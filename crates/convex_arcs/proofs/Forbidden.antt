@@ -17,7 +17,7 @@ use Rattle.np_model.specs.Network.Duality.{least_worth, reduced}
 use Rattle.np_model.specs.Network.Flows.{at}
 use Rattle.np_model.specs.Scheme.Segments.{Stage, hull, last_end, end_after}
 use Rattle.convex_arcs.specs.Segments.{band_arc, segment_arcs, flat_arcs}
-use Rattle.convex_arcs.specs.Filled.{ForbiddenOnBothSides}
+use Rattle.convex_arcs.specs.Filled.{ForbidsPlans}
 
 -- an upper bound where the reduced cost for cost 0 is below 0
 abbrev Bounded : List Ratio → NetArc → Type 0
@@ -107,7 +107,7 @@ stages_bounded p (s ∷ stages) h =
     let parts = all_parts (Bounded p) (segment_arcs s) (flat_arcs stages) h in
     ((λ below. last_finite p s.ends s.upper s.bands below (parts.0.0 below) parts.0.1), stages_bounded p stages parts.1)
 
-pub forbidden_on_both_sides : ForbiddenOnBothSides
+pub forbidden_on_both_sides : ForbidsPlans
 forbidden_on_both_sides supply stages p h =
     let bounded = recursion_from_All (Bounded p) (flat_arcs stages) h.finite in
     let supplied = total (λ (v, potential). potential *ᵣ at supply v) (enumerate_from 0 p) in

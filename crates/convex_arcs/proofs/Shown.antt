@@ -19,7 +19,7 @@ use Rattle.np_model.specs.Scheme.Convex.{IsKink}
 use Rattle.period_expand.specs.Expansion.{IsSoundStage, segment_count}
 use Rattle.convex_arcs.specs.Segments.{band_arc, segment_arcs, flat_arcs}
 use Rattle.convex_arcs.specs.Gathered.{amounts_of}
-use Rattle.convex_arcs.specs.Filled.{ShownOnBothSides}
+use Rattle.convex_arcs.specs.Filled.{GatheredIsShown}
 use Rattle.convex_arcs.proofs.Bounds.{Keeps, not_negative, at_most_after, all_split}
 
 abbrev Slack : List Ratio → NetArc × Ratio → Type 0
@@ -113,7 +113,7 @@ stages_kinks p n (s ∷ stages) flows h e k l =
       rest,
     )
 
-pub shown_on_both_sides : ShownOnBothSides
+pub shown_on_both_sides : GatheredIsShown
 shown_on_both_sides supply stages p flows h f shows = record {
   one_each = shows.one_each;
   slopes =

@@ -1,4 +1,4 @@
--- Amounts of staged arcs filled into their segments in order, and what is least on both sides. (This project's own.)
+-- Amounts of staged arcs filled into their segments in order, and what goes over between both. (This project's own.)
 use Rattle.std.specs.Prelude.{◌≡◌, List, ◌∷◌, map}
 use Rattle.std.specs.List.{flat_map, zip}
 use Rattle.np_frac.specs.Ratio.{Ratio}
@@ -37,8 +37,8 @@ FilledGathersBack =
     amounts_of stages (filled_flows stages x) ≡ x
 
 -- so flows of least cost for the segments have amounts of least cost, and the least costs are the same
-abbrev pub LeastOnBothSides : Type 0
-LeastOnBothSides =
+abbrev pub GatheredIsLeast : Type 0
+GatheredIsLeast =
     (supply : List Ratio) (stages : List Stage) (flows : List Ratio) → IsExpansion supply stages → Least (flat_net supply stages) flows →
     StagesLeast supply stages (amounts_of stages flows) × (stages_cost stages (amounts_of stages flows) ≡ plan_cost (flat_arcs stages) flows)
 
@@ -49,21 +49,21 @@ LeastPlansFill =
     Least (flat_net supply stages) (filled_flows stages x)
 
 -- prices that show flows least for the segments show their amounts least
-abbrev pub ShownOnBothSides : Type 0
-ShownOnBothSides =
+abbrev pub GatheredIsShown : Type 0
+GatheredIsShown =
     (supply : List Ratio) (stages : List Stage) (p flows : List Ratio) → IsExpansion supply stages → Feasible (flat_net supply stages) flows →
     Shows (flat_net supply stages) p flows → StagesShow supply stages p (amounts_of stages flows)
 
 -- ---- no plan at all, and costs that fall without end
 
 -- prices that certify that no flows are feasible certify it of plans, with the same gap
-abbrev pub ForbiddenOnBothSides : Type 0
-ForbiddenOnBothSides =
+abbrev pub ForbidsPlans : Type 0
+ForbidsPlans =
     (supply : List Ratio) (stages : List Stage) (p : List Ratio) → Impossible (flat_net supply stages) p →
     StagesImpossible supply stages p × (stages_gap supply stages p ≡ gap (flat_net supply stages) p)
 
 -- a ray of the flows gives one of the amounts, with the same cost
-abbrev pub FallsOnBothSides : Type 0
-FallsOnBothSides =
+abbrev pub GatheredFalls : Type 0
+GatheredFalls =
     (supply : List Ratio) (stages : List Stage) (flows d : List Ratio) → IsExpansion supply stages → Ray (flat_net supply stages) flows d →
     StagesRay supply stages (amounts_of stages flows) (amounts_of stages d)

@@ -1,7 +1,7 @@
 //! Where each segment stands, and what the flows of the segments come to, as the clauses of functions that do nothing.
 
 ghost use Rattle.convex_arcs.specs.Gathered.{GatheredIsExact, AmountsByPlace, AmountsBalance, AmountsFeasible, AmountsCostNoMore};
-ghost use Rattle.convex_arcs.specs.Filled.{FilledIsFeasible, FilledCostsTheSame, FilledGathersBack, LeastOnBothSides, LeastPlansFill, ShownOnBothSides, ForbiddenOnBothSides, FallsOnBothSides};
+ghost use Rattle.convex_arcs.specs.Filled.{FilledIsFeasible, FilledCostsTheSame, FilledGathersBack, GatheredIsLeast, LeastPlansFill, GatheredIsShown, ForbidsPlans, GatheredFalls};
 ghost use Rattle.convex_arcs.specs.Schemes.{LeastFlowsGather, LeastPlansAreFilled};
 ghost use Rattle.convex_arcs.specs.Segments.{SegmentsStandInOrder, HasNoOtherSegments};
 
@@ -33,9 +33,9 @@ pub fn filled_plans()
     ensures feasible { FilledIsFeasible }
     ensures cost { FilledCostsTheSame }
     ensures gathered { FilledGathersBack }
-    ensures least { LeastOnBothSides }
+    ensures least { GatheredIsLeast }
     ensures fills { LeastPlansFill }
-    ensures shown { ShownOnBothSides }
+    ensures shown { GatheredIsShown }
 {}
 
 /// The expanded network of a scheme has the scheme's least cost: its flows of least cost are gathered to a plan of least
@@ -50,6 +50,6 @@ pub fn schemes()
 /// Prices that certify that no flows are feasible for the arcs of the segments certify that the staged arcs have no
 /// plan, with the same gap, and a ray of the flows gives one of the amounts.
 pub fn other_verdicts()
-    ensures forbidden { ForbiddenOnBothSides }
-    ensures falls { FallsOnBothSides }
+    ensures forbidden { ForbidsPlans }
+    ensures falls { GatheredFalls }
 {}

@@ -7,7 +7,7 @@ use Rattle.std.proofs.Common.{sym, subst, ◌∙◌, inl, inr, arith, refl}
 use Rattle.net_csv.specs.declared.refused.Tail.TheVariants as tail
 use Rattle.netplan_top.specs.declared.words.Command.{Command}
 use Rattle.netplan_top.specs.declared.words.Command.TheVariants.{Check, Expand}
-use Rattle.netplan_top.specs.Words.{Names, IsCommand, usage_text}
+use Rattle.netplan_top.specs.Words.{AskFor, IsCommand, usage_text}
 use Rattle.netplan_top.specs.Commands.Check.{Accepts, Overflows, Rejects, Says, IsPlanFaulty}
 use Rattle.netplan_top.specs.Commands.Expand.{Expands, IsExpandAnswer}
 use Rattle.netplan_top.specs.Commands.Faults.{IsFaulty}
@@ -102,7 +102,7 @@ module _ (command : Command) (io : Streams) (status : ℕ) where
   sink_failed (Ending.unread is rose same) e = absurd (omega arith)
   sink_failed (Ending.no_memory is same) e = absurd (omega arith)
 
-  pub cut : (words : List (String Global)) → Names words command → Ending command io status → status ≡ 8
+  pub cut : (words : List (String Global)) → AskFor words command → Ending command io status → status ≡ 8
       → IsCut (IsAllowed words io) io
   cut words named ends e =
       let it = sink_failed ends e in
@@ -110,14 +110,14 @@ module _ (command : Command) (io : Streams) (status : ℕ) where
 
 -- ---- by the command that the words name
 
-accepted : (words : List (String Global)) (command : Command) (io : Streams) (status : ℕ) → Names words command → Ending command io status → Names words Check → status ≡ 0
+accepted : (words : List (String Global)) (command : Command) (io : Streams) (status : ℕ) → AskFor words command → Ending command io status → AskFor words Check → status ≡ 0
     → Gives (Says Accepts) io
 accepted words Check io status named ends check e =
     gives Check io status ends 0 (Says Accepts) e (λ h. absurd (omega arith)) (λ h. absurd (omega arith)) (λ h. absurd (omega arith)) (λ h. absurd (omega arith))
     (λ input text answer. answer.accepts e)
 accepted words Expand io status named ends check e = absurd (apart words check named)
 
-expanded : (words : List (String Global)) (command : Command) (io : Streams) (status : ℕ) → Names words command → Ending command io status → Names words Expand → status ≡ 0
+expanded : (words : List (String Global)) (command : Command) (io : Streams) (status : ℕ) → AskFor words command → Ending command io status → AskFor words Expand → status ≡ 0
     → Gives Expands io
 expanded words Check io status named ends expand e = absurd (apart words named expand)
 expanded words Expand io status named ends expand e =
@@ -140,16 +140,16 @@ no_reject io status ends e =
     (λ input text answer. only_two 10 status input text answer e (λ h. absurd (omega arith)) (λ h. absurd (omega arith))) in
     given.says
 
-overflowed : (words : List (String Global)) (command : Command) (io : Streams) (status : ℕ) → Names words command → Ending command io status → status ≡ 4
-    → Names words Check × Gives (Says Overflows) io
+overflowed : (words : List (String Global)) (command : Command) (io : Streams) (status : ℕ) → AskFor words command → Ending command io status → status ≡ 4
+    → AskFor words Check × Gives (Says Overflows) io
 overflowed words Check io status named ends e = (
   named,
   gives Check io status ends 4 (Says Overflows) e (λ h. absurd (omega arith)) (λ h. absurd (omega arith)) (λ h. absurd (omega arith)) (λ h. absurd (omega arith)) (λ input text answer. answer.overflows e),
 )
 overflowed words Expand io status named ends e = absurd (no_overflow io status ends e)
 
-rejected : (words : List (String Global)) (command : Command) (io : Streams) (status : ℕ) → Names words command → Ending command io status → status ≡ 10
-    → Names words Check × Gives (Says Rejects) io
+rejected : (words : List (String Global)) (command : Command) (io : Streams) (status : ℕ) → AskFor words command → Ending command io status → status ≡ 10
+    → AskFor words Check × Gives (Says Rejects) io
 rejected words Check io status named ends e = (
   named,
   gives Check io status ends 10 (Says Rejects) e (λ h. absurd (omega arith)) (λ h. absurd (omega arith)) (λ h. absurd (omega arith)) (λ h. absurd (omega arith)) (λ input text answer. answer.rejects e),
@@ -162,7 +162,7 @@ one_of given = elim given.says [
   | inr plan ↦ inr (record { input = given.input; text = given.text; whole = given.whole; says = plan; wrote = given.wrote })
 ]
 
-refused : (words : List (String Global)) (command : Command) (io : Streams) (status : ℕ) → Names words command → Ending command io status → Names words Check → status ≡ 5
+refused : (words : List (String Global)) (command : Command) (io : Streams) (status : ℕ) → AskFor words command → Ending command io status → AskFor words Check → status ≡ 5
     → Gives (IsFaulty tail.Plan) io ⊎ Gives IsPlanFaulty io ⊎ GivesTooLong io
 refused words Check io status named ends check e =
     elim (gives_fault Check io status ends (λ input text. IsFaulty tail.Plan input text ⊎ IsPlanFaulty input text) e (λ input text answer. answer.refuses e)) [
@@ -171,7 +171,7 @@ refused words Check io status named ends check e =
     ]
 refused words Expand io status named ends check e = absurd (apart words check named)
 
-not_expanded : (words : List (String Global)) (command : Command) (io : Streams) (status : ℕ) → Names words command → Ending command io status → Names words Expand → status ≡ 5
+not_expanded : (words : List (String Global)) (command : Command) (io : Streams) (status : ℕ) → AskFor words command → Ending command io status → AskFor words Expand → status ≡ 5
     → Gives (IsFaulty tail.Nothing) io ⊎ GivesTooLong io
 not_expanded words Check io status named ends expand e = absurd (apart words named expand)
 not_expanded words Expand io status named ends expand e = gives_fault Expand io status ends (IsFaulty tail.Nothing) e (λ input text answer. answer.refuses e)
@@ -179,7 +179,7 @@ not_expanded words Expand io status named ends expand e = gives_fault Expand io 
 -- ---- a run
 
 -- of words that name a command
-pub command_runs : (words : List (String Global)) (command : Command) (io : Streams) (status : ℕ) → Names words command → Ending command io status → IsRun words io status
+pub command_runs : (words : List (String Global)) (command : Command) (io : Streams) (status : ℕ) → AskFor words command → Ending command io status → IsRun words io status
 command_runs words command io status named ends = record {
   no_command = λ none. absurd (none (command, named));
   usage = λ e. absurd (no_usage command io status ends e);

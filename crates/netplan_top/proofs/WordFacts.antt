@@ -5,7 +5,7 @@ use Rattle.std.specs.declared.string.String.{String}
 use Rattle.std.specs.declared.alloc.Global.{Global}
 use Rattle.std.proofs.Common.{sym, ap, ◌∙◌, arith, get_or}
 use Rattle.netplan_top.specs.declared.words.Command.TheVariants.{Check, Expand}
-use Rattle.netplan_top.specs.Words.{Names, IsCommand}
+use Rattle.netplan_top.specs.Words.{AskFor, IsCommand}
 
 -- the one word of a list
 pub one_item : {A B : Type 0} (f : A → B) (xs : List A) (x : A) → length xs ≡ 1 → x ≡ get_or xs 0 x → map f xs ≡ f x ∷ []
@@ -22,5 +22,5 @@ no_command words check expand (Check, e) = check e
 no_command words check expand (Expand, e) = expand e
 
 -- no words name both
-pub apart : (words : List (String Global)) → Names words Check → Names words Expand → ⊥
+pub apart : (words : List (String Global)) → AskFor words Check → AskFor words Expand → ⊥
 apart words a b = cc (sym a ∙ b)

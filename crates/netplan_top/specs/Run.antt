@@ -8,7 +8,7 @@ use Rattle.np_io.specs.Input.{TookExactly}
 use Rattle.net_csv.specs.declared.refused.Tail.TheVariants as tail
 use Rattle.netplan_top.specs.declared.words.Command.{Command}
 use Rattle.netplan_top.specs.declared.words.Command.TheVariants.{Check, Expand}
-use Rattle.netplan_top.specs.Words.{Names, IsCommand, usage_text}
+use Rattle.netplan_top.specs.Words.{AskFor, IsCommand, usage_text}
 use Rattle.netplan_top.specs.Texts.Frame.{refused_text}
 use Rattle.netplan_top.specs.Commands.Faults.{IsFaulty}
 use Rattle.netplan_top.specs.Commands.Check.{Says, Accepts, Rejects, Overflows, IsPlanFaulty}
@@ -78,7 +78,7 @@ pub record IsCut (allowed : List ℕ → Type 0) (io : Streams) : Type 0 where
 
 -- a text that the words allow, and for a command what was read: the usage text, or one that some status of the command allows
 abbrev pub IsAllowed : List (String Global) → Streams → List ℕ → Type 0
-IsAllowed words io text = ((¬ (IsCommand words)) × (text ≡ usage_text)) ⊎ ((command : Command) × Names words command × IsSomeText command io text)
+IsAllowed words io text = ((¬ (IsCommand words)) × (text ≡ usage_text)) ⊎ ((command : Command) × AskFor words command × IsSomeText command io text)
 
 -- ---- the statuses
 
@@ -92,13 +92,13 @@ pub record IsRun (words : List (String Global)) (io : Streams) (status : ℕ) : 
   pub no_command : ¬ (IsCommand words) → (status ≡ 6) ⊎ (status ≡ 8)
   pub usage : status ≡ 6 → (¬ (IsCommand words)) × Wrote io.written io.written' usage_text
   -- `check` read the whole input, and the text says this of it
-  pub accepted : Names words Check → status ≡ 0 → Gives (Says Accepts) io
-  pub overflowed : status ≡ 4 → Names words Check × Gives (Says Overflows) io
-  pub rejected : status ≡ 10 → Names words Check × Gives (Says Rejects) io
-  pub refused : Names words Check → status ≡ 5 → Gives (IsFaulty tail.Plan) io ⊎ Gives IsPlanFaulty io ⊎ GivesTooLong io
+  pub accepted : AskFor words Check → status ≡ 0 → Gives (Says Accepts) io
+  pub overflowed : status ≡ 4 → AskFor words Check × Gives (Says Overflows) io
+  pub rejected : status ≡ 10 → AskFor words Check × Gives (Says Rejects) io
+  pub refused : AskFor words Check → status ≡ 5 → Gives (IsFaulty tail.Plan) io ⊎ Gives IsPlanFaulty io ⊎ GivesTooLong io
   -- `expand` read the whole input, and the text is that of its expanded network, or names its first fault
-  pub expanded : Names words Expand → status ≡ 0 → Gives Expands io
-  pub not_expanded : Names words Expand → status ≡ 5 → Gives (IsFaulty tail.Nothing) io ⊎ GivesTooLong io
+  pub expanded : AskFor words Expand → status ≡ 0 → Gives Expands io
+  pub not_expanded : AskFor words Expand → status ≡ 5 → Gives (IsFaulty tail.Nothing) io ⊎ GivesTooLong io
   -- the source or the sink failed, or memory ran out
   pub unread_rest : status ≡ 7 → Rose io.source_faults io.source_faults' × (io.written' ≡ io.written)
   pub cut : status ≡ 8 → IsCut (IsAllowed words io) io

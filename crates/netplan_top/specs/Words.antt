@@ -11,13 +11,13 @@ abbrev pub word_of : Command → List ℕ
 word_of Check = codes "check"
 word_of Expand = codes "expand"
 
--- the words name this command: its word, and no other
-abbrev pub Names : List (String Global) → Command → Type 0
-Names words command = map string_bytes words ≡ word_of command ∷ []
+-- the words ask for this command: its word stands there, and no other
+abbrev pub AskFor : List (String Global) → Command → Type 0
+AskFor words command = map string_bytes words ≡ word_of command ∷ []
 
--- the words name a command
+-- the words ask for a command
 abbrev pub IsCommand : List (String Global) → Type 0
-IsCommand words = (command : Command) × Names words command
+IsCommand words = (command : Command) × AskFor words command
 
 -- the usage text: the commands that there are
 abbrev pub usage_text : List ℕ

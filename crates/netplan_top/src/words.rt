@@ -2,7 +2,7 @@
 
 ghost use Rattle.std.specs.Prelude.{◌≡◌, ◌∷◌, [], ◌↔◌, IsTrue, MatchOption, map};
 ghost use Rattle.std.specs.String.{string_bytes};
-ghost use Rattle.netplan_top.specs.Words.{Names, IsCommand};
+ghost use Rattle.netplan_top.specs.Words.{AskFor, IsCommand};
 
 /// What the program can be asked for.
 #[derive(Clone, Copy, Debug, PartialEq, Eq)]
@@ -22,7 +22,7 @@ fn is_word(words: &[String], word: &str) -> bool
 
 /// The command that the words name.
 pub(crate) fn command_of(words: &[String]) -> Option<Command>
-    ensures { MatchOption result (¬ (IsCommand words.now)) (λ command. Names words.now command) }
+    ensures { MatchOption result (¬ (IsCommand words.now)) (λ command. AskFor words.now command) }
 {
     if is_word(words, "check") {
         return Some(Command::Check);
