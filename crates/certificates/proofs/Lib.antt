@@ -22,4 +22,3 @@ mod WrittenAmounts
 mod Written
 mod WrittenTexts
 mod WrittenRecords
-mod TestScheme

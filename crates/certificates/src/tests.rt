@@ -1,7 +1,3 @@
-ghost use Rattle.std.specs.Prelude.{◌≡◌, ◌<◌, ◌≤◌, [], ◌∷◌, IfOk};
-ghost use Rattle.np_frac.specs.Ratio.{zero_ratio, one_ratio};
-ghost use Rattle.np_model.specs.declared.arc.Upper.TheVariants.{Finite};
-
 use crate::{PlanRefused, plan_text, read_plan};
 use np_frac::{Frac, Memory, Op, Past, read_frac};
 use np_model::{
@@ -13,18 +9,14 @@ use std::test::Fail;
 use std::vec;
 
 // A name of one letter.
-fn name(alloc: Global, letter: u8) -> Result<Name, Memory>
-    ensures { IfOk result (λ name. name ≡ letter ∷ []) }
-{
+fn name(alloc: Global, letter: u8) -> Result<Name, Memory> {
     let mut items = Vec::new(alloc);
     items.push(letter)?;
     Ok(Name { items })
 }
 
 // A flow with such a name, from 0 to 1 in each period, where a unit costs 1.
-fn flow(alloc: Global, letter: u8, kind: FlowKind) -> Result<Flow, Memory>
-    ensures { IfOk result (λ flow. flow ≡ record { name = letter ∷ []; kind = kind; lower = zero_ratio; upper = Finite one_ratio; cost = one_ratio; bands = [] }) }
-{
+fn flow(alloc: Global, letter: u8, kind: FlowKind) -> Result<Flow, Memory> {
     Ok(Flow {
         name: name(alloc, letter)?,
         kind,
@@ -39,10 +31,7 @@ fn flow(alloc: Global, letter: u8, kind: FlowKind) -> Result<Flow, Memory>
 
 // A network of two nodes A and B: a link u from A to B, a hold h at A, and a drain d at B. Over two periods its staged arcs
 // are u, h and d in period 1, u and d in period 2.
-fn network(alloc: Global, periods: u32) -> Result<Scheme, Memory>
-    requires some { 0 < periods }
-    requires few { periods ≤ 2 }
-{
+fn network(alloc: Global, periods: u32) -> Result<Scheme, Fail> {
     let mut nodes = Vec::new(alloc);
     nodes.push(name(alloc, b'A')?)?;
     nodes.push(name(alloc, b'B')?)?;
@@ -59,14 +48,15 @@ fn network(alloc: Global, periods: u32) -> Result<Scheme, Memory>
     )?)?;
     flows.push(flow(alloc, b'h', FlowKind::Hold { node: 0, gain })?)?;
     flows.push(flow(alloc, b'd', FlowKind::Drain { node: 1 })?)?;
-    Ok(Scheme {
+    let supply = vec![in alloc; Frac::whole(0); periods as usize * 2]?;
+    let made = Scheme::new(
+        alloc,
         periods,
-        nodes: Names { items: nodes },
-        supply: Fracs {
-            items: vec![in alloc; Frac::whole(0); periods as usize * 2]?,
-        },
-        flows: Flows { items: flows },
-    })
+        Names { items: nodes },
+        Fracs { items: supply },
+        Flows { items: flows },
+    )?;
+    Ok(made.ok_or("not a valid scheme")?)
 }
 
 // Texts stand in tests with `|` for the end of a record.

@@ -27,5 +27,4 @@ mod Written
 mod OneScheme
 pub mod CountWithin
 mod WrittenTexts
-mod SmallScheme
 mod Stands

@@ -1,4 +1,3 @@
 pub mod Grows
 mod Standing
 mod Sound
-mod Year

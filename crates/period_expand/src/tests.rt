@@ -1,7 +1,3 @@
-ghost use Rattle.std.specs.Prelude.{◌≡◌, [], ◌∷◌, IfOk};
-ghost use Rattle.np_frac.specs.Ratio.{zero_ratio, one_ratio};
-ghost use Rattle.np_model.specs.declared.arc.Upper.TheVariants.{Finite};
-
 use crate::{Staged, expand_periods};
 use np_frac::{Frac, Memory};
 use np_model::{Bands, Ends, Flow, FlowKind, Flows, Fracs, Name, Names, Scheme, Upper};
@@ -9,9 +5,7 @@ use std::alloc::Global;
 use std::test::Fail;
 
 // A flow with a name of one letter, from 0 to 1 in each period, where a unit costs 1.
-fn flow(alloc: Global, letter: u8, kind: FlowKind) -> Result<Flow, Memory>
-    ensures { IfOk result (λ flow. flow ≡ record { name = letter ∷ []; kind = kind; lower = zero_ratio; upper = Finite one_ratio; cost = one_ratio; bands = [] }) }
-{
+fn flow(alloc: Global, letter: u8, kind: FlowKind) -> Result<Flow, Memory> {
     let mut name = Vec::new(alloc);
     name.push(letter)?;
     Ok(Flow {
@@ -27,7 +21,7 @@ fn flow(alloc: Global, letter: u8, kind: FlowKind) -> Result<Flow, Memory>
 }
 
 // A reservoir over twelve months: what it holds, what leaves it, and what comes in.
-fn year(alloc: Global) -> Result<Scheme, Memory> {
+fn year(alloc: Global) -> Result<Scheme, Fail> {
     let mut name = Vec::new(alloc);
     name.push(b'A')?;
     let mut nodes = Vec::new(alloc);
@@ -40,14 +34,15 @@ fn year(alloc: Global) -> Result<Scheme, Memory> {
     flows.push(flow(alloc, b'h', hold)?)?;
     flows.push(flow(alloc, b'd', FlowKind::Drain { node: 0 })?)?;
     flows.push(flow(alloc, b'f', FlowKind::Feed { node: 0 })?)?;
-    Ok(Scheme {
-        periods: 12,
-        nodes: Names { items: nodes },
-        supply: Fracs {
-            items: Vec::from_slice(alloc, &[Frac::whole(0); 12])?,
-        },
-        flows: Flows { items: flows },
-    })
+    let supply = Vec::from_slice(alloc, &[Frac::whole(0); 12])?;
+    let made = Scheme::new(
+        alloc,
+        12,
+        Names { items: nodes },
+        Fracs { items: supply },
+        Flows { items: flows },
+    )?;
+    Ok(made.ok_or("not a valid scheme")?)
 }
 
 #[test]

@@ -1,20 +1,10 @@
-ghost use Rattle.std.specs.Prelude.{◌≡◌, ◌+◌, ◌*◌, true, IfOk, length, map, codes};
-ghost use Rattle.std.specs.List.{AllPass, All};
-ghost use Rattle.np_frac.specs.Amount.{is_amount};
-ghost use Rattle.np_model.specs.Scheme.Names.{AreNames};
-ghost use Rattle.np_model.specs.Scheme.Valid.{IsSound, expanded_arcs};
-ghost use Rattle.np_model.specs.Scheme.Kinds.{periods_of};
-
 use super::*;
 use np_frac::read_amount;
 use np_model::{Flows, Fracs, Name};
 use std::test::Fail;
 
 // A node whose name holds a comma, and one whose name holds a quote.
-fn small_nodes(alloc: Global) -> Result<Names, Memory>
-    ensures names { IfOk result (λ nodes. AreNames nodes) }
-    ensures count { IfOk result (λ nodes. length nodes ≡ 2) }
-{
+fn small_nodes(alloc: Global) -> Result<Names, Memory> {
     let comma = Name {
         items: Vec::from_slice(alloc, b"a,b")?,
     };
@@ -26,21 +16,13 @@ fn small_nodes(alloc: Global) -> Result<Names, Memory>
 }
 
 // The supplies of two nodes in two periods.
-fn small_supply(alloc: Global, third: Frac) -> Result<Fracs, Memory>
-    requires { is_amount third ≡ true }
-    ensures amounts { IfOk result (λ supply. AllPass is_amount supply) }
-    ensures count { IfOk result (λ supply. length supply ≡ 4) }
-{
+fn small_supply(alloc: Global, third: Frac) -> Result<Fracs, Memory> {
     let none = Frac::whole(0);
     let items = vec![in alloc; none, third, Frac::whole(4), none]?;
     Ok(Fracs { items })
 }
 
-fn arc(alloc: Global) -> Result<Flow, Memory>
-    ensures sound { IfOk result (λ flow. IsSound 2 flow) }
-    ensures name { IfOk result (λ flow. flow.name ≡ codes "x,y") }
-    ensures arcs { IfOk result (λ flow. (1 + length flow.bands) * periods_of 2 flow.kind ≡ 2) }
-{
+fn arc(alloc: Global) -> Result<Flow, Memory> {
     Ok(Flow {
         name: Name {
             items: Vec::from_slice(alloc, b"x,y")?,
@@ -59,11 +41,7 @@ fn arc(alloc: Global) -> Result<Flow, Memory>
     })
 }
 
-fn hold(alloc: Global) -> Result<Flow, Memory>
-    ensures sound { IfOk result (λ flow. IsSound 2 flow) }
-    ensures name { IfOk result (λ flow. flow.name ≡ codes "h") }
-    ensures arcs { IfOk result (λ flow. (1 + length flow.bands) * periods_of 2 flow.kind ≡ 1) }
-{
+fn hold(alloc: Global) -> Result<Flow, Memory> {
     Ok(Flow {
         name: Name {
             items: Vec::from_slice(alloc, b"h")?,
@@ -81,11 +59,7 @@ fn hold(alloc: Global) -> Result<Flow, Memory>
     })
 }
 
-fn drain(alloc: Global) -> Result<Flow, Memory>
-    ensures sound { IfOk result (λ flow. IsSound 2 flow) }
-    ensures name { IfOk result (λ flow. flow.name ≡ codes "z") }
-    ensures arcs { IfOk result (λ flow. (1 + length flow.bands) * periods_of 2 flow.kind ≡ 6) }
-{
+fn drain(alloc: Global) -> Result<Flow, Memory> {
     let bands = vec![in alloc;
         Band {
             width: Upper::Finite(Frac::whole(2)),
@@ -108,28 +82,17 @@ fn drain(alloc: Global) -> Result<Flow, Memory>
     })
 }
 
-fn small_flows(alloc: Global) -> Result<Flows, Memory>
-    ensures names { IfOk result (λ flows. AreNames (map (λ flow. flow.name) flows)) }
-    ensures sound { IfOk result (λ flows. All (IsSound 2) flows) }
-    ensures count { IfOk result (λ flows. length flows ≡ 3) }
-    ensures arcs { IfOk result (λ flows. expanded_arcs 2 flows ≡ 9) }
-{
+fn small_flows(alloc: Global) -> Result<Flows, Memory> {
     let items = vec![in alloc; arc(alloc)?, hold(alloc)?, drain(alloc)?]?;
     Ok(Flows { items })
 }
 
-fn small_scheme(alloc: Global, third: Frac) -> Result<Scheme, Memory>
-    requires { is_amount third ≡ true }
-{
+fn small_scheme(alloc: Global, third: Frac) -> Result<Scheme, Fail> {
     let nodes = small_nodes(alloc)?;
     let supply = small_supply(alloc, third)?;
     let flows = small_flows(alloc)?;
-    Ok(Scheme {
-        periods: 2,
-        nodes,
-        supply,
-        flows,
-    })
+    let made = Scheme::new(alloc, 2, nodes, supply, flows)?;
+    Ok(made.ok_or("not a valid scheme")?)
 }
 
 #[test]
