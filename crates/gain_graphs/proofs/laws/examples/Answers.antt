@@ -1,0 +1,8 @@
+use Rattle.gain_graphs.proofs.Examples as theorems
+use Rattle.gain_graphs.proofs.laws.examples.Goals as goal
+
+pub returns-clause-rooted : goal.returns-clause-rooted
+returns-clause-rooted g c = λ field. theorems.rooted field
+
+pub returns-clause-cycle : goal.returns-clause-cycle
+returns-clause-cycle g c = λ field. theorems.cycle field

@@ -1,0 +1,108 @@
+-- The laws: of potentials, weights and flows on a quasi-tree, of its one-ended arc or cycle, and of the pieces of basic arcs.
+use Rattle.std.specs.Prelude.{◌≡◌, ◌≢◌, ◌⊎◌, ◌↔◌, ◌<◌, ℕ, List, [], ◌∷◌, map}
+use Rattle.gain_graphs.specs.Field.{Field, total}
+use Rattle.gain_graphs.specs.Arcs.{IsIn, AreDistinct, Ends, Link, Drain, HasOneEnd, coefficient, balance, pull, reduced_cost}
+use Rattle.gain_graphs.specs.QuasiTrees.{LiesIn, IsQuasiTree}
+use Rattle.gain_graphs.specs.Forests.{IsValid, IsPiece}
+use Rattle.gain_graphs.specs.Cycles.{arcs_along, IsNoLoop, IsCycle, IsLeastFirst, gain_along}
+
+module _ {Scalar : Type 0} (field : Field Scalar) where
+  infixl 70 ◌⊗◌
+  open field use {zero, one, ◌⊗◌}
+
+  -- ---- potentials, weights and flows
+
+  -- the pull of node weights on an arc is their sum over the nodes, each times the arc's coefficient there
+  abbrev pub PullIsSum : Type 0
+  PullIsSum = (nodes : List ℕ) (e : Ends Scalar) (weight : ℕ → Scalar) → AreDistinct nodes → LiesIn field nodes e
+      → total field (λ v. coefficient field e v ⊗ weight v) nodes ≡ pull field e weight
+
+  -- for any costs there are potentials that give each arc the reduced cost 0
+  abbrev pub PotentialsExist : Type 0
+  PotentialsExist = (ends : ℕ → Ends Scalar) (nodes arcs : List ℕ) → IsQuasiTree field nodes (map ends arcs)
+      → (cost : ℕ → Scalar) → (potential : ℕ → Scalar) × ((a : ℕ) → IsIn a arcs → reduced_cost field (ends a) (cost a) potential ≡ zero)
+
+  -- and no others on these nodes
+  abbrev pub PotentialsAreUnique : Type 0
+  PotentialsAreUnique = (ends : ℕ → Ends Scalar) (nodes arcs : List ℕ) → IsQuasiTree field nodes (map ends arcs) → (cost p q : ℕ → Scalar)
+      → ((a : ℕ) → IsIn a arcs → reduced_cost field (ends a) (cost a) p ≡ zero)
+      → ((a : ℕ) → IsIn a arcs → reduced_cost field (ends a) (cost a) q ≡ zero) → (v : ℕ) → IsIn v nodes → p v ≡ q v
+
+  -- each arc has node weights whose pull is 1 on it and 0 on every other
+  abbrev pub WeightsExist : Type 0
+  WeightsExist = (ends : ℕ → Ends Scalar) (nodes arcs : List ℕ) → IsQuasiTree field nodes (map ends arcs) → (a : ℕ) → IsIn a arcs
+      → (weight : ℕ → Scalar) × (pull field (ends a) weight ≡ one) × ((b : ℕ) → IsIn b arcs → b ≢ a → pull field (ends b) weight ≡ zero)
+
+  -- whatever the nodes supply, a flow on the arcs takes it
+  abbrev pub FlowExists : Type 0
+  FlowExists = (ends : ℕ → Ends Scalar) (nodes arcs : List ℕ) → IsQuasiTree field nodes (map ends arcs) → AreDistinct arcs
+      → (supply : ℕ → Scalar) → (flow : ℕ → Scalar) × ((v : ℕ) → IsIn v nodes → balance field ends flow arcs v ≡ supply v)
+
+  -- and no other
+  abbrev pub FlowIsUnique : Type 0
+  FlowIsUnique = (ends : ℕ → Ends Scalar) (nodes arcs : List ℕ) → IsQuasiTree field nodes (map ends arcs) → (supply x y : ℕ → Scalar)
+      → ((v : ℕ) → IsIn v nodes → balance field ends x arcs v ≡ supply v)
+      → ((v : ℕ) → IsIn v nodes → balance field ends y arcs v ≡ supply v) → (a : ℕ) → IsIn a arcs → x a ≡ y a
+
+  -- a flow that takes nothing from any node is 0 on each arc
+  abbrev pub NoCirculation : Type 0
+  NoCirculation = (ends : ℕ → Ends Scalar) (nodes arcs : List ℕ) → IsQuasiTree field nodes (map ends arcs) → (flow : ℕ → Scalar)
+      → ((v : ℕ) → IsIn v nodes → balance field ends flow arcs v ≡ zero) → (a : ℕ) → IsIn a arcs → flow a ≡ zero
+
+  -- ---- the one-ended arc or the cycle
+
+  -- a quasi-tree has an arc with one end or a cycle, which can be walked from its least node along the lower of its two arcs there
+  abbrev pub ExtraExists : Type 0
+  ExtraExists = (ends : ℕ → Ends Scalar) (nodes arcs : List ℕ) → IsQuasiTree field nodes (map ends arcs) → ((a : ℕ) → IsIn a arcs → IsNoLoop (ends a))
+      → ((a : ℕ) × IsIn a arcs × HasOneEnd (ends a)) ⊎ ((start : ℕ) × (way : List (ℕ × ℕ)) × IsLeastFirst ends arcs start way)
+
+  -- it has no two arcs with one end
+  abbrev pub OneEndIsUnique : Type 0
+  OneEndIsUnique = (ends : ℕ → Ends Scalar) (nodes arcs : List ℕ) → IsQuasiTree field nodes (map ends arcs)
+      → (a b : ℕ) → IsIn a arcs → IsIn b arcs → HasOneEnd (ends a) → HasOneEnd (ends b) → a ≡ b
+
+  -- with an arc with one end it has no cycle
+  abbrev pub NotBoth : Type 0
+  NotBoth = (ends : ℕ → Ends Scalar) (nodes arcs : List ℕ) → IsQuasiTree field nodes (map ends arcs)
+      → (a : ℕ) → IsIn a arcs → HasOneEnd (ends a) → (start : ℕ) (way : List (ℕ × ℕ)) → IsCycle ends arcs start way → ⊥
+
+  -- any two of its cycles are over the same arcs
+  abbrev pub CycleIsUnique : Type 0
+  CycleIsUnique = (ends : ℕ → Ends Scalar) (nodes arcs : List ℕ) → IsQuasiTree field nodes (map ends arcs)
+      → (start : ℕ) (way : List (ℕ × ℕ)) → IsCycle ends arcs start way → (other : ℕ) (round : List (ℕ × ℕ)) → IsCycle ends arcs other round
+      → (a : ℕ) → IsIn a (arcs_along way) ↔ IsIn a (arcs_along round)
+
+  -- walked from its least node along the lower arc there, it is one way
+  abbrev pub LeastFirstIsUnique : Type 0
+  LeastFirstIsUnique = (ends : ℕ → Ends Scalar) (nodes arcs : List ℕ) → IsQuasiTree field nodes (map ends arcs)
+      → (start : ℕ) (way : List (ℕ × ℕ)) → IsLeastFirst ends arcs start way → (other : ℕ) (round : List (ℕ × ℕ)) → IsLeastFirst ends arcs other round
+      → (start ≡ other) × (way ≡ round)
+
+  -- its cycle is not breakeven, from whatever node and in whichever direction it is walked
+  abbrev pub CycleIsNotBreakeven : Type 0
+  CycleIsNotBreakeven = (ends : ℕ → Ends Scalar) (nodes arcs : List ℕ) → IsQuasiTree field nodes (map ends arcs) → ((a : ℕ) → IsIn a arcs → IsNoLoop (ends a))
+      → (start : ℕ) (way : List (ℕ × ℕ)) → IsCycle ends arcs start way → gain_along field ends start way ≢ one
+
+  -- ---- pieces
+
+  -- each node lies in a piece of the basic arcs
+  abbrev pub PieceExists : Type 0
+  PieceExists = (n : ℕ) (ends : ℕ → Ends Scalar) (basic : List ℕ) → AreDistinct basic → ((a : ℕ) → IsIn a basic → IsValid field n (ends a))
+      → (v : ℕ) → v < n → (least : ℕ) × (nodes : List ℕ) × (arcs : List ℕ) × IsPiece n ends basic least nodes arcs × IsIn v nodes
+
+  -- and in no other: pieces that share a node have the same nodes and arcs
+  abbrev pub PieceIsUnique : Type 0
+  PieceIsUnique = (n : ℕ) (ends : ℕ → Ends Scalar) (basic : List ℕ)
+      → (least : ℕ) (nodes arcs : List ℕ) → IsPiece n ends basic least nodes arcs
+      → (first : ℕ) (others theirs : List ℕ) → IsPiece n ends basic first others theirs → (v : ℕ) → IsIn v nodes → IsIn v others
+      → (least ≡ first) × ((u : ℕ) → IsIn u nodes ↔ IsIn u others) × ((a : ℕ) → IsIn a arcs ↔ IsIn a theirs)
+
+  -- ---- examples
+
+  -- a node with a drain is a quasi-tree
+  abbrev pub RootedExample : Type 0
+  RootedExample = (v : ℕ) → IsQuasiTree field (v ∷ []) (Drain v ∷ [])
+
+  -- two nodes with two links of gain 1 and of another gain are a quasi-tree
+  abbrev pub CycleExample : Type 0
+  CycleExample = (gain : Scalar) → gain ≢ zero → gain ≢ one → IsQuasiTree field (0 ∷ 1 ∷ []) (Link 0 1 one ∷ Link 0 1 gain ∷ [])

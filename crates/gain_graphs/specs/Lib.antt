@@ -1,0 +1,6 @@
+pub mod Field
+pub mod Arcs
+pub mod QuasiTrees
+pub mod Forests
+pub mod Cycles
+pub mod Laws

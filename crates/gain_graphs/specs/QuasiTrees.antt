@@ -1,0 +1,28 @@
+-- Quasi-trees: the pieces of the bases of a generalised flow problem. Ahuja, Magnanti and Orlin call one with a cycle a good augmented
+-- tree; one whose cycle is replaced by an arc with one end is a rooted tree.
+use Rattle.std.specs.Prelude.{◌≡◌, ◌≢◌, ◌⊎◌, ℕ, List, length}
+use Rattle.gain_graphs.specs.Field.{Field}
+use Rattle.gain_graphs.specs.Arcs.{IsIn, AreDistinct, Ends, Link, Drain, Feed, Step, HasOneEnd, IsWalk, AreJoined, product}
+
+module _ {Scalar : Type 0} (field : Field Scalar) where
+  open field use {zero, one}
+
+  -- the arc's ends are nodes of the list, and a link's gain is not 0
+  abbrev pub LiesIn : List ℕ → Ends Scalar → Type 0
+  LiesIn nodes (Link i j g) = IsIn i nodes × IsIn j nodes × (g ≢ zero)
+  LiesIn nodes (Drain i) = IsIn i nodes
+  LiesIn nodes (Feed i) = IsIn i nodes
+
+  -- an arc has one end, or a closed walk is not breakeven: the product of its gains is not 1
+  abbrev pub HasExtra : List ℕ → List (Ends Scalar) → Type 0
+  HasExtra nodes arcs = ((a : Ends Scalar) × IsIn a arcs × HasOneEnd a)
+      ⊎ ((v : ℕ) × (steps : List (Step Scalar)) × IsIn v nodes × IsWalk arcs v steps v × (product field steps ≢ one))
+
+  -- links join these nodes, there are as many arcs as nodes, and one of them is more than a tree has
+  pub record IsQuasiTree (nodes : List ℕ) (arcs : List (Ends Scalar)) : Type 0 where
+    pub nodes_once : AreDistinct nodes
+    pub some_node : (v : ℕ) × IsIn v nodes
+    pub ends_inside : (a : Ends Scalar) → IsIn a arcs → LiesIn nodes a
+    pub joined : (u v : ℕ) → IsIn u nodes → IsIn v nodes → AreJoined arcs u v
+    pub as_many : length arcs ≡ length nodes
+    pub extra : HasExtra nodes arcs

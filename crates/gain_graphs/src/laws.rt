@@ -1,0 +1,57 @@
+//! The laws of quasi-trees and augmented forests over any field, as the clauses of functions that do nothing.
+//!
+//! A node list and an arc list are a quasi-tree where `IsQuasiTree` says so; arcs are numbered, and `ends` tells the ends of each.
+
+ghost use Rattle.gain_graphs.specs.Field.{Field};
+ghost use Rattle.gain_graphs.specs.Laws.{PullIsSum, PotentialsExist, PotentialsAreUnique, WeightsExist, FlowExists, FlowIsUnique, NoCirculation, ExtraExists, OneEndIsUnique, NotBoth, CycleIsUnique, LeastFirstIsUnique, CycleIsNotBreakeven, PieceExists, PieceIsUnique, RootedExample, CycleExample};
+
+/// The pull of node weights on an arc, `w(i) - g * w(j)` for a link from i to j, `w(v)` for a drain and `-w(v)` for a feed, is their
+/// sum over the nodes, each times the arc's incidence coefficient there.
+pub fn pulls<Scalar>()
+    ensures { (field : Field Scalar) → PullIsSum field }
+{}
+
+/// For any costs a quasi-tree has potentials with which each arc has the reduced cost 0, and no others.
+pub fn potentials<Scalar>()
+    ensures exist { (field : Field Scalar) → PotentialsExist field }
+    ensures unique { (field : Field Scalar) → PotentialsAreUnique field }
+{}
+
+/// Each arc of a quasi-tree has node weights whose pull is 1 on it and 0 on every other.
+pub fn weights<Scalar>()
+    ensures { (field : Field Scalar) → WeightsExist field }
+{}
+
+/// For any supplies of its nodes a quasi-tree has a flow that takes them, and no other; so a flow that takes nothing is 0.
+pub fn flows<Scalar>()
+    ensures exist { (field : Field Scalar) → FlowExists field }
+    ensures unique { (field : Field Scalar) → FlowIsUnique field }
+    ensures rigid { (field : Field Scalar) → NoCirculation field }
+{}
+
+/// A quasi-tree without loops has one arc with one end or one cycle, and not both.
+pub fn extra<Scalar>()
+    ensures exists { (field : Field Scalar) → ExtraExists field }
+    ensures one_end { (field : Field Scalar) → OneEndIsUnique field }
+    ensures not_both { (field : Field Scalar) → NotBoth field }
+{}
+
+/// The cycle of a quasi-tree is one: all its walks are over the same arcs, from its least node along the lower of its two arcs there
+/// there is one walk, and the product of the gains is not 1, from whatever node and in whichever direction it is walked.
+pub fn cycle<Scalar>()
+    ensures unique { (field : Field Scalar) → CycleIsUnique field }
+    ensures least_first { (field : Field Scalar) → LeastFirstIsUnique field }
+    ensures not_breakeven { (field : Field Scalar) → CycleIsNotBreakeven field }
+{}
+
+/// Each node lies in one piece of the basic arcs, and in no other.
+pub fn pieces<Scalar>()
+    ensures exist { (field : Field Scalar) → PieceExists field }
+    ensures unique { (field : Field Scalar) → PieceIsUnique field }
+{}
+
+/// There are quasi-trees of both kinds: a node with a drain, and two nodes with two links whose gains differ.
+pub fn examples<Scalar>()
+    ensures rooted { (field : Field Scalar) → RootedExample field }
+    ensures cycle { (field : Field Scalar) → CycleExample field }
+{}
