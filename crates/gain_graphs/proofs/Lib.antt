@@ -16,3 +16,4 @@ pub mod Simple
 pub mod Turning
 pub mod Theorems
 pub mod Examples
+pub mod Three

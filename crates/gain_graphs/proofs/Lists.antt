@@ -21,9 +21,6 @@ in_append x (z ∷ xs) ys (inr i) = elim (in_append x xs ys i) [ inl j ↦ inl (
 pub in_others : {A : Type 0} (x : A) (before : List A) (a : A) (after : List A) → IsIn x (before ++ a ∷ after) → (x ≡ a) ⊎ IsIn x (before ++ after)
 in_others x before a after i = elim (in_append x before (a ∷ after) i) [ inl j ↦ inr (in_front x before after j) | inr j ↦ elim j [ inl e ↦ inl e | inr k ↦ inr (in_back x before after k) ] ]
 
-pub in_marked : {A : Type 0} (before : List A) (a : A) (after : List A) → IsIn a (before ++ a ∷ after)
-in_marked before a after = in_back a before (a ∷ after) (inl refl)
-
 pub in_with : {A : Type 0} (x : A) (before : List A) (a : A) (after : List A) → IsIn x (before ++ after) → IsIn x (before ++ a ∷ after)
 in_with x before a after i = elim (in_append x before after i) [ inl j ↦ in_front x before (a ∷ after) j | inr j ↦ in_back x before (a ∷ after) (inr j) ]
 

@@ -123,6 +123,12 @@ module _ {Scalar : Type 0} (F : Field Scalar) where
       let q = lies ends ns arcs p in
       (Cycles.shared F ends ns arcs p q start way c other round d a, Cycles.shared F ends ns arcs p q other round d start way c a)
 
+  pub least_first_exists : Laws.LeastFirstExists F
+  least_first_exists ends ns arcs p no_loop start way c = elim (extra_exists ends ns arcs p no_loop) [
+    | inl x ↦ absurd (not_both ends ns arcs p x.0 x.1 x.2 start way c)
+    | inr x ↦ x
+  ]
+
   pub least_first_is_unique : Laws.LeastFirstIsUnique F
   least_first_is_unique ends ns arcs p start way c other round d = Cycles.one_cycle F ends ns arcs p (lies ends ns arcs p) start way c other round d
 

@@ -1,9 +1,9 @@
--- Gain graphs: arcs between numbered nodes, where a unit that enters a link comes out as its gain. Incidence coefficients and
--- reduced costs are those of Ahuja, Magnanti and Orlin, Network Flows, chapter 15; arcs with one end are Zaslavsky's half edges.
+-- Gain graphs: arcs between numbered nodes, where what enters a link comes out times its gain. Incidence coefficients and reduced costs are
+-- those of Ahuja, Magnanti and Orlin, Network Flows, chapter 15; arcs with one end are Zaslavsky's half edges.
 use Rattle.std.specs.Prelude.{◌≡◌, ◌⊎◌, ℕ, List, [], ◌∷◌, cond, nat_eq, ⊤}
 use Rattle.gain_graphs.specs.Field.{Field, total}
 
--- a link leads from its tail to its head with a gain; a drain takes out of the network at its node, a feed brings in
+-- a link leads from its tail to its head and has a gain; a drain takes out of the network at its node, and a feed brings in there
 pub data Ends (Scalar : Type 0) : Type 0 where
   Link : ℕ → ℕ → Scalar → Ends Scalar
   Drain : ℕ → Ends Scalar

@@ -1,9 +1,9 @@
--- Cycles, as lists of an arc and the node that it leads to.
+-- Cycles as lists: each entry is the number of an arc and the node that it leads to. A list leads a way from some node; which, is said beside it.
 use Rattle.std.specs.Prelude.{◌≡◌, ◌≢◌, ◌⊎◌, ◌<◌, ◌≤◌, ℕ, List, [], ◌∷◌, cond, nat_eq, ⊤}
 use Rattle.gain_graphs.specs.Field.{Field}
 use Rattle.gain_graphs.specs.Arcs.{IsIn, AreDistinct, Ends, Link, Drain, Feed}
 
--- the arcs of a way, and the nodes that they lead to
+-- the arcs of a way in order, and the nodes that they lead to
 abbrev pub arcs_along : List (ℕ × ℕ) → List ℕ
 arcs_along [] = []
 arcs_along (x ∷ way) = x.0 ∷ arcs_along way
@@ -22,7 +22,7 @@ abbrev pub GoesUp : List (ℕ × ℕ) → Type 0
 GoesUp [] = ⊥
 GoesUp (x ∷ way) = x.0 < last_arc x.0 way
 
--- an arc leads the way
+-- it has an arc
 abbrev pub HasArc : List (ℕ × ℕ) → Type 0
 HasArc [] = ⊥
 HasArc (x ∷ way) = ⊤

@@ -1,7 +1,7 @@
--- Fields: what the laws ask of the numbers that are gains, costs, flows and potentials. They need no order.
+-- Fields: what the laws ask of the numbers that are gains, costs, flows and potentials. They ask for no order.
 use Rattle.std.specs.Prelude.{◌≡◌, ◌≢◌, List, [], ◌∷◌}
 
--- a field over this type, with equality that can be decided
+-- a field with these elements, in which equality can be decided
 pub record Field (Scalar : Type 0) : Type 0 where
   infixl 60 ◌⊕◌
   infixl 70 ◌⊗◌

@@ -1,10 +1,10 @@
--- Augmented forests: basic arcs fall into pieces, and each piece is a quasi-tree. Nodes and arcs are numbered.
+-- Augmented forests: the basic arcs of a network fall into pieces, each a quasi-tree. Nodes and arcs are numbered.
 use Rattle.std.specs.Prelude.{◌≢◌, ◌↔◌, ◌<◌, ◌≤◌, ℕ, List, map}
 use Rattle.gain_graphs.specs.Field.{Field}
 use Rattle.gain_graphs.specs.Arcs.{IsIn, AreDistinct, Ends, Link, Drain, Feed, Touches, AreJoined}
 use Rattle.gain_graphs.specs.QuasiTrees.{IsQuasiTree}
 
--- the nodes that links of basic arcs join to this node, the least of them, and the basic arcs that touch them
+-- the nodes below n that walks over basic links join to this one, which is the least of them, and the basic arcs that touch them
 pub record IsPiece {Scalar : Type 0} (n : ℕ) (ends : ℕ → Ends Scalar) (basic : List ℕ) (least : ℕ) (nodes arcs : List ℕ) : Type 0 where
   pub nodes_once : AreDistinct nodes
   pub arcs_once : AreDistinct arcs

@@ -1,4 +1,4 @@
--- The laws: of potentials, weights and flows on a quasi-tree, of its one-ended arc or cycle, and of the pieces of basic arcs.
+-- The laws: of potentials, node weights and flows on a quasi-tree, of its one-ended arc or its cycle, and of the pieces of a forest.
 use Rattle.std.specs.Prelude.{◌≡◌, ◌≢◌, ◌⊎◌, ◌↔◌, ◌<◌, ℕ, List, [], ◌∷◌, map}
 use Rattle.gain_graphs.specs.Field.{Field, total}
 use Rattle.gain_graphs.specs.Arcs.{IsIn, AreDistinct, Ends, Link, Drain, HasOneEnd, coefficient, balance, pull, reduced_cost}
@@ -28,12 +28,12 @@ module _ {Scalar : Type 0} (field : Field Scalar) where
       → ((a : ℕ) → IsIn a arcs → reduced_cost field (ends a) (cost a) p ≡ zero)
       → ((a : ℕ) → IsIn a arcs → reduced_cost field (ends a) (cost a) q ≡ zero) → (v : ℕ) → IsIn v nodes → p v ≡ q v
 
-  -- each arc has node weights whose pull is 1 on it and 0 on every other
+  -- for each arc there are node weights whose pull is 1 on it and 0 on every other
   abbrev pub WeightsExist : Type 0
   WeightsExist = (ends : ℕ → Ends Scalar) (nodes arcs : List ℕ) → IsQuasiTree field nodes (map ends arcs) → (a : ℕ) → IsIn a arcs
       → (weight : ℕ → Scalar) × (pull field (ends a) weight ≡ one) × ((b : ℕ) → IsIn b arcs → b ≢ a → pull field (ends b) weight ≡ zero)
 
-  -- whatever the nodes supply, a flow on the arcs takes it
+  -- whatever the nodes supply, some flow on the arcs takes it
   abbrev pub FlowExists : Type 0
   FlowExists = (ends : ℕ → Ends Scalar) (nodes arcs : List ℕ) → IsQuasiTree field nodes (map ends arcs) → AreDistinct arcs
       → (supply : ℕ → Scalar) → (flow : ℕ → Scalar) × ((v : ℕ) → IsIn v nodes → balance field ends flow arcs v ≡ supply v)
@@ -51,7 +51,7 @@ module _ {Scalar : Type 0} (field : Field Scalar) where
 
   -- ---- the one-ended arc or the cycle
 
-  -- a quasi-tree has an arc with one end or a cycle, which can be walked from its least node along the lower of its two arcs there
+  -- a quasi-tree has an arc with one end or a cycle
   abbrev pub ExtraExists : Type 0
   ExtraExists = (ends : ℕ → Ends Scalar) (nodes arcs : List ℕ) → IsQuasiTree field nodes (map ends arcs) → ((a : ℕ) → IsIn a arcs → IsNoLoop (ends a))
       → ((a : ℕ) × IsIn a arcs × HasOneEnd (ends a)) ⊎ ((start : ℕ) × (way : List (ℕ × ℕ)) × IsLeastFirst ends arcs start way)
@@ -72,7 +72,12 @@ module _ {Scalar : Type 0} (field : Field Scalar) where
       → (start : ℕ) (way : List (ℕ × ℕ)) → IsCycle ends arcs start way → (other : ℕ) (round : List (ℕ × ℕ)) → IsCycle ends arcs other round
       → (a : ℕ) → IsIn a (arcs_along way) ↔ IsIn a (arcs_along round)
 
-  -- walked from its least node along the lower arc there, it is one way
+  -- where there is one, it can be walked from its least node along the lower of its two arcs there
+  abbrev pub LeastFirstExists : Type 0
+  LeastFirstExists = (ends : ℕ → Ends Scalar) (nodes arcs : List ℕ) → IsQuasiTree field nodes (map ends arcs) → ((a : ℕ) → IsIn a arcs → IsNoLoop (ends a))
+      → (start : ℕ) (way : List (ℕ × ℕ)) → IsCycle ends arcs start way → (least : ℕ) × (round : List (ℕ × ℕ)) × IsLeastFirst ends arcs least round
+
+  -- and in no other way
   abbrev pub LeastFirstIsUnique : Type 0
   LeastFirstIsUnique = (ends : ℕ → Ends Scalar) (nodes arcs : List ℕ) → IsQuasiTree field nodes (map ends arcs)
       → (start : ℕ) (way : List (ℕ × ℕ)) → IsLeastFirst ends arcs start way → (other : ℕ) (round : List (ℕ × ℕ)) → IsLeastFirst ends arcs other round
@@ -106,3 +111,13 @@ module _ {Scalar : Type 0} (field : Field Scalar) where
   -- two nodes with two links of gain 1 and of another gain are a quasi-tree
   abbrev pub CycleExample : Type 0
   CycleExample = (gain : Scalar) → gain ≢ zero → gain ≢ one → IsQuasiTree field (0 ∷ 1 ∷ []) (Link 0 1 one ∷ Link 0 1 gain ∷ [])
+
+-- three elements
+pub data Three : Type 0 where
+  Zero : Three
+  One : Three
+  Two : Three
+
+-- they are those of a field, with an element beside 0 and 1
+abbrev pub FieldExample : Type 0
+FieldExample = (field : Field Three) × (gain : Three) × (gain ≢ field.zero) × (gain ≢ field.one)

@@ -1,9 +1,10 @@
-//! The laws of quasi-trees and augmented forests over any field, as the clauses of functions that do nothing.
+//! The laws of quasi-trees and of pieces, over any field, as the clauses of functions that do nothing.
 //!
-//! A node list and an arc list are a quasi-tree where `IsQuasiTree` says so; arcs are numbered, and `ends` tells the ends of each.
+//! Arcs have numbers, and `ends` tells the ends of each. A list of nodes and one of arcs are a quasi-tree where `IsQuasiTree` says so of
+//! the nodes and the ends of the arcs.
 
 ghost use Rattle.gain_graphs.specs.Field.{Field};
-ghost use Rattle.gain_graphs.specs.Laws.{PullIsSum, PotentialsExist, PotentialsAreUnique, WeightsExist, FlowExists, FlowIsUnique, NoCirculation, ExtraExists, OneEndIsUnique, NotBoth, CycleIsUnique, LeastFirstIsUnique, CycleIsNotBreakeven, PieceExists, PieceIsUnique, RootedExample, CycleExample};
+ghost use Rattle.gain_graphs.specs.Laws.{PullIsSum, PotentialsExist, PotentialsAreUnique, WeightsExist, FlowExists, FlowIsUnique, NoCirculation, ExtraExists, OneEndIsUnique, NotBoth, CycleIsUnique, LeastFirstExists, LeastFirstIsUnique, CycleIsNotBreakeven, PieceExists, PieceIsUnique, RootedExample, CycleExample, FieldExample};
 
 /// The pull of node weights on an arc, `w(i) - g * w(j)` for a link from i to j, `w(v)` for a drain and `-w(v)` for a feed, is their
 /// sum over the nodes, each times the arc's incidence coefficient there.
@@ -40,7 +41,8 @@ pub fn extra<Scalar>()
 /// there is one walk, and the product of the gains is not 1, from whatever node and in whichever direction it is walked.
 pub fn cycle<Scalar>()
     ensures unique { (field : Field Scalar) → CycleIsUnique field }
-    ensures least_first { (field : Field Scalar) → LeastFirstIsUnique field }
+    ensures least_first { (field : Field Scalar) → LeastFirstExists field }
+    ensures in_one_way { (field : Field Scalar) → LeastFirstIsUnique field }
     ensures not_breakeven { (field : Field Scalar) → CycleIsNotBreakeven field }
 {}
 
@@ -50,8 +52,10 @@ pub fn pieces<Scalar>()
     ensures unique { (field : Field Scalar) → PieceIsUnique field }
 {}
 
-/// There are quasi-trees of both kinds: a node with a drain, and two nodes with two links whose gains differ.
+/// There are quasi-trees of both kinds: a node with a drain, and two nodes with two links, one of gain 1 and one of another gain. And there
+/// is a field with another gain, that of three elements.
 pub fn examples<Scalar>()
     ensures rooted { (field : Field Scalar) → RootedExample field }
     ensures cycle { (field : Field Scalar) → CycleExample field }
+    ensures field { FieldExample }
 {}
