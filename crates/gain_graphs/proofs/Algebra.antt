@@ -62,5 +62,21 @@ module _ {Scalar : Type 0} (F : Field Scalar) where
   pub inverse_times : (a : Scalar) → a ≢ zero → inverse a ⊗ a ≡ one
   inverse_times a h = times_comm (inverse a) a ∙ times_inverse a h
 
+  -- a value that is not 0 is cancelled
+  pub times_left_cancel : (a b c : Scalar) → a ≢ zero → a ⊗ b ≡ a ⊗ c → b ≡ c
+  times_left_cancel a b c h e =
+      sym (one_times b) ∙ ap (λ x. x ⊗ b) (sym (inverse_times a h)) ∙ times_assoc (inverse a) a b
+      ∙ ap (λ x. inverse a ⊗ x) e
+      ∙ sym (times_assoc (inverse a) a c) ∙ ap (λ x. x ⊗ c) (inverse_times a h) ∙ one_times c
+
+  pub zero_of_times : (a b : Scalar) → a ≢ zero → a ⊗ b ≡ zero → b ≡ zero
+  zero_of_times a b h e = times_left_cancel a b zero h (e ∙ sym (times_zero a))
+
+  pub times_not_zero : (a b : Scalar) → a ≢ zero → b ≢ zero → a ⊗ b ≢ zero
+  times_not_zero a b h k e = k (zero_of_times a b h e)
+
+  pub inverse_not_zero : (a : Scalar) → a ≢ zero → inverse a ≢ zero
+  inverse_not_zero a h e = F.one_is_not_zero (sym (times_inverse a h) ∙ ap (λ x. a ⊗ x) e ∙ times_zero a)
+
   pub plus_pairs : (a b c d : Scalar) → (a ⊕ b) ⊕ (c ⊕ d) ≡ (a ⊕ c) ⊕ (b ⊕ d)
   plus_pairs a b c d = rw (plus_assoc a b (c ⊕ d), plus_left b c d, ← plus_assoc a c (b ⊕ d))

@@ -17,3 +17,7 @@ pub mod Turning
 pub mod Theorems
 pub mod Examples
 pub mod Three
+pub mod Parts
+pub mod Shapes
+pub mod Pieces
+pub mod Bases

@@ -1,10 +1,10 @@
 -- Each node lies in a piece: a search over the basic links finds it.
-use Rattle.std.proofs.Common.{◌≡◌, ◌⊎◌, inl, inr, sym, ap, refl, ◌∙◌, subst, ℕ, suc, zero, ◌+◌, ◌<◌, ◌≤◌, List, [], ◌∷◌, length, map, arith}
+use Rattle.std.proofs.Common.{◌≡◌, ◌⊎◌, inl, inr, sym, refl, ◌∙◌, subst, ℕ, suc, zero, ◌+◌, ◌<◌, ◌≤◌, List, [], ◌∷◌, length, map, arith}
 use Rattle.gain_graphs.specs.Field.{Field}
 use Rattle.gain_graphs.specs.Arcs.{IsIn, AreDistinct, Ends, Link, Drain, Feed, Step, Along, Against, Touches, IsWalk, AreJoined}
 use Rattle.gain_graphs.specs.Forests.{IsPiece, IsValid}
 use Rattle.gain_graphs.proofs.Lists.{in_map_of, decide_in, at_most}
-use Rattle.gain_graphs.proofs.Selected.{upto, upto_holds, Selected, select, least_of}
+use Rattle.gain_graphs.proofs.Selected.{upto, upto_holds, length_upto, Selected, select, least_of}
 use Rattle.gain_graphs.proofs.Walks
 
 module _ {Scalar : Type 0} (F : Field Scalar) (n : ℕ) (ends : ℕ → Ends Scalar) where
@@ -71,10 +71,6 @@ module _ {Scalar : Type 0} (F : Field Scalar) (n : ℕ) (ends : ℕ → Ends Sca
       → (ms : List ℕ) × Reached basic s ms × Closed ms basic
   unfolding Fresh
   search_on basic valid s zero ns h r = absurd (let l : length ns ≤ length (upto n) = at_most ns (upto n) r.once (λ v i. upto_holds n v (r.below v i)) in omega (arith, length_upto n))
-    where
-      length_upto : (m : ℕ) → length (upto m) ≡ m
-      length_upto zero = refl
-      length_upto (suc m) = ap suc (length_upto m)
   search_on basic valid s (suc k) ns h r = go (search_on basic valid s k) (crossing ns basic)
     where
       go : ((ms : List ℕ) → n < k + length ms → Reached basic s ms → (ls : List ℕ) × Reached basic s ls × Closed ls basic) → Fresh ns basic ⊎ Closed ns basic → (ms : List ℕ) × Reached basic s ms × Closed ms basic

@@ -1,5 +1,5 @@
 -- The numbers below a bound, those of a list that have a property, and the least of a list.
-use Rattle.std.proofs.Common.{◌≡◌, ◌⊎◌, ◌↔◌, inl, inr, sym, refl, subst, ℕ, suc, zero, ◌<◌, ◌≤◌, List, [], ◌∷◌, arith}
+use Rattle.std.proofs.Common.{lt_irrefl, length, ap, ◌≡◌, ◌⊎◌, ◌↔◌, inl, inr, sym, refl, subst, ℕ, suc, zero, ◌<◌, ◌≤◌, List, [], ◌∷◌, arith}
 use Rattle.gain_graphs.specs.Arcs.{IsIn, AreDistinct}
 
 abbrev pub upto : ℕ → List ℕ
@@ -18,7 +18,15 @@ upto_holds (suc n) v h = elim (cases v n h) [ inl e ↦ inl e | inr l ↦ inr (u
     cases : (a b : ℕ) → a < suc b → (a ≡ b) ⊎ (a < b)
     cases a b l = grind arith
 
--- the numbers of a list that pass
+pub upto_once : (n : ℕ) → AreDistinct (upto n)
+upto_once zero = record {}
+upto_once (suc n) = ((λ i. lt_irrefl n (upto_below n n i)), upto_once n)
+
+pub length_upto : (n : ℕ) → length (upto n) ≡ n
+length_upto zero = refl
+length_upto (suc n) = ap suc (length_upto n)
+
+-- the numbers of a list that have a property
 pub record Selected (P : ℕ → Type 0) (xs : List ℕ) : Type 0 where
   pub list : List ℕ
   pub once : AreDistinct list

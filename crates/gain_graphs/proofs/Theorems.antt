@@ -23,7 +23,7 @@ use Rattle.gain_graphs.proofs.Search
 module _ {Scalar : Type 0} (F : Field Scalar) where
   infixl 60 ◌⊕◌
   infixl 70 ◌⊗◌
-  open F use {zero, one, ◌⊕◌, ◌⊗◌, negated, inverse, plus_negated}
+  open F use {zero, one, ◌⊕◌, ◌⊗◌, negated, plus_negated}
 
   lies : (ends : ℕ → Ends Scalar) (ns arcs : List ℕ) → IsQuasiTree F ns (map ends arcs) → (a : ℕ) → IsIn a arcs → LiesIn F ns (ends a)
   lies ends ns arcs p a i = p.ends_inside (ends a) (in_map ends a arcs i)

@@ -3,7 +3,7 @@ use Rattle.std.specs.Prelude.{◌≡◌, ◌≢◌, ◌⊎◌, ◌↔◌, ◌<�
 use Rattle.gain_graphs.specs.Field.{Field, total}
 use Rattle.gain_graphs.specs.Arcs.{IsIn, AreDistinct, Ends, Link, Drain, HasOneEnd, coefficient, balance, pull, reduced_cost}
 use Rattle.gain_graphs.specs.QuasiTrees.{LiesIn, IsQuasiTree}
-use Rattle.gain_graphs.specs.Forests.{IsValid, IsPiece}
+use Rattle.gain_graphs.specs.Forests.{IsValid, IsPiece, IsForest, IsBasis}
 use Rattle.gain_graphs.specs.Cycles.{arcs_along, IsNoLoop, IsCycle, IsLeastFirst, gain_along}
 
 module _ {Scalar : Type 0} (field : Field Scalar) where
@@ -88,7 +88,7 @@ module _ {Scalar : Type 0} (field : Field Scalar) where
   CycleIsNotBreakeven = (ends : ℕ → Ends Scalar) (nodes arcs : List ℕ) → IsQuasiTree field nodes (map ends arcs) → ((a : ℕ) → IsIn a arcs → IsNoLoop (ends a))
       → (start : ℕ) (way : List (ℕ × ℕ)) → IsCycle ends arcs start way → gain_along field ends start way ≢ one
 
-  -- ---- pieces
+  -- ---- forests
 
   -- each node lies in a piece of the basic arcs
   abbrev pub PieceExists : Type 0
@@ -101,6 +101,11 @@ module _ {Scalar : Type 0} (field : Field Scalar) where
       → (least : ℕ) (nodes arcs : List ℕ) → IsPiece n ends basic least nodes arcs
       → (first : ℕ) (others theirs : List ℕ) → IsPiece n ends basic first others theirs → (v : ℕ) → IsIn v nodes → IsIn v others
       → (least ≡ first) × ((u : ℕ) → IsIn u nodes ↔ IsIn u others) × ((a : ℕ) → IsIn a arcs ↔ IsIn a theirs)
+
+  -- the bases of a network are its augmented forests
+  abbrev pub BasesAreForests : Type 0
+  BasesAreForests = (n : ℕ) (ends : ℕ → Ends Scalar) (basic : List ℕ) → AreDistinct basic → ((a : ℕ) → IsIn a basic → IsValid field n (ends a))
+      → IsBasis field n ends basic ↔ IsForest field n ends basic
 
   -- ---- examples
 

@@ -4,7 +4,7 @@
 //! the nodes and the ends of the arcs.
 
 ghost use Rattle.gain_graphs.specs.Field.{Field};
-ghost use Rattle.gain_graphs.specs.Laws.{PullIsSum, PotentialsExist, PotentialsAreUnique, WeightsExist, FlowExists, FlowIsUnique, NoCirculation, ExtraExists, OneEndIsUnique, NotBoth, CycleIsUnique, LeastFirstExists, LeastFirstIsUnique, CycleIsNotBreakeven, PieceExists, PieceIsUnique, RootedExample, CycleExample, FieldExample};
+ghost use Rattle.gain_graphs.specs.Laws.{PullIsSum, PotentialsExist, PotentialsAreUnique, WeightsExist, FlowExists, FlowIsUnique, NoCirculation, ExtraExists, OneEndIsUnique, NotBoth, CycleIsUnique, LeastFirstExists, LeastFirstIsUnique, CycleIsNotBreakeven, PieceExists, PieceIsUnique, BasesAreForests, RootedExample, CycleExample, FieldExample};
 
 /// The pull of node weights on an arc, `w(i) - g * w(j)` for a link from i to j, `w(v)` for a drain and `-w(v)` for a feed, is their
 /// sum over the nodes, each times the arc's incidence coefficient there.
@@ -50,6 +50,12 @@ pub fn cycle<Scalar>()
 pub fn pieces<Scalar>()
     ensures exist { (field : Field Scalar) → PieceExists field }
     ensures unique { (field : Field Scalar) → PieceIsUnique field }
+{}
+
+/// The bases of a network are its augmented forests: n arcs on which no flow but 0 takes nothing from every node are those whose pieces are
+/// quasi-trees.
+pub fn bases<Scalar>()
+    ensures { (field : Field Scalar) → BasesAreForests field }
 {}
 
 /// There are quasi-trees of both kinds: a node with a drain, and two nodes with two links, one of gain 1 and one of another gain. And there

@@ -1,10 +1,10 @@
 //! Gain graphs: the theory of bases of generalised minimum-cost flow, over any field.
 //!
-//! A gain graph is a network whose links multiply what they carry by a gain. The bases of its flow problem are forests of
-//! quasi-trees: trees of links, each with one arc more, which has one end or closes a cycle whose gains do not cancel. What a
-//! network simplex does at a pivot rests on the laws of such forests: potentials and flows exist and are unique on each quasi-tree,
-//! and the arc more is one. They are the clauses of the functions in [`laws`]. No code has a value here: the crate is for the
-//! solver's proofs, and the program as it stands uses none of it.
+//! A gain graph is a network whose links multiply what they carry by a gain. The bases of its flow problem are its augmented forests:
+//! the pieces are quasi-trees, trees of links with one arc more, which has one end or closes a cycle that is not breakeven. What a
+//! network simplex does at a pivot rests on the laws of such pieces: potentials and flows exist and are unique on each, and the arc
+//! more is one. They are the clauses of the functions in [`laws`]. No code has a value here: the crate is for the solver's
+//! proofs, and the program as it stands uses none of it.
 //!
 //! Sources: R. K. Ahuja, T. L. Magnanti and J. B. Orlin, *Network Flows*, chapter 15 (generalised flows: augmented forests, good
 //! where each cycle is not breakeven); T. Zaslavsky, *Biased Graphs*, parts I and II (gain graphs, half edges, and the matroid whose bases
