@@ -3,7 +3,8 @@ use Rattle.std.proofs.Common.{◌≡◌, ◌≢◌, ◌⊎◌, inl, inr, sym, ap
 use Rattle.gain_graphs.specs.Field.{Field}
 use Rattle.gain_graphs.specs.Arcs.{IsIn, AreDistinct, Ends, Link, Drain, Feed, Touches, AreJoined, coefficient, balance, pull}
 use Rattle.gain_graphs.specs.QuasiTrees.{LiesIn, IsQuasiTree}
-use Rattle.gain_graphs.specs.Forests.{IsPiece, IsForest, IsValid, IsBasis}
+use Rattle.gain_graphs.specs.Forests.{IsPiece, IsForest, IsValid}
+use Rattle.gain_graphs.specs.Bases.{IsBasis}
 use Rattle.gain_graphs.proofs.Lists.{in_map, in_map_of, length_map, decide_in}
 use Rattle.gain_graphs.proofs.Selected.{upto, upto_below, upto_holds, upto_once, length_upto}
 use Rattle.gain_graphs.proofs.Algebra
@@ -24,7 +25,7 @@ module _ {Scalar : Type 0} (F : Field Scalar) (n : ℕ) (ends : ℕ → Ends Sca
   open F use {zero, ◌⊕◌, ◌⊗◌, plus_zero, times_comm, decide}
 
   -- the arcs of a network lie in all of its nodes
-  lies_in_all : (e : Ends Scalar) → IsValid F n e → LiesIn F (upto n) e
+  pub lies_in_all : (e : Ends Scalar) → IsValid F n e → LiesIn F (upto n) e
   lies_in_all (Link i j g) v = (upto_holds n i v.0, upto_holds n j v.1, v.2)
   lies_in_all (Drain i) v = upto_holds n i v
   lies_in_all (Feed i) v = upto_holds n i v
@@ -133,7 +134,7 @@ module _ {Scalar : Type 0} (F : Field Scalar) (n : ℕ) (ends : ℕ → Ends Sca
   -- ---- a basis is a forest
 
   -- where flows are independent, only the weights 0 have the pull 0
-  basis_rigid : (basic : List ℕ) → ((a : ℕ) → IsIn a basic → IsValid F n (ends a)) → IsBasis F n ends basic → Rigid.IsRigid F (upto n) (map ends basic)
+  pub basis_rigid : (basic : List ℕ) → ((a : ℕ) → IsIn a basic → IsValid F n (ends a)) → IsBasis F n ends basic → Rigid.IsRigid F (upto n) (map ends basic)
   basis_rigid basic valid b q flat s i = go (decide (q s) zero)
     where
       o : Sums.Out F s (upto n)

@@ -21,3 +21,5 @@ pub mod Parts
 pub mod Shapes
 pub mod Pieces
 pub mod Bases
+pub mod Exchange
+pub mod Directions

@@ -1,5 +1,5 @@
 -- The arcs of a piece, and sums over them.
-use Rattle.std.proofs.Common.{◌≡◌, ◌⊎◌, inl, inr, sym, ap, refl, ◌∙◌, subst, ap₂, ℕ, List, [], ◌∷◌, map}
+use Rattle.std.proofs.Common.{◌≡◌, ◌⊎◌, ◌↔◌, inl, inr, sym, ap, refl, ◌∙◌, subst, ap₂, ℕ, List, [], ◌∷◌, map}
 use Rattle.gain_graphs.specs.Field.{Field, total}
 use Rattle.gain_graphs.specs.Arcs.{IsIn, AreDistinct, Ends, Link, Drain, Feed, Along, Against, Touches, coefficient}
 use Rattle.gain_graphs.specs.QuasiTrees.{LiesIn}
@@ -38,6 +38,29 @@ module _ {Scalar : Type 0} (F : Field Scalar) (n : ℕ) (ends : ℕ → Ends Sca
       let basic' : IsIn r.0 basic = f r.0 touch r.1 in
       let lies : LiesIn F ns (Link i j g) = both_ends basic s ns own p valid (Link i j g) (subst (λ e. IsIn e (map ends basic)) (sym r.2) (in_map ends r.0 basic basic')) (subst (λ e. IsValid F n e) (sym r.2) (valid r.0 basic')) t in
       (subst (λ e. IsIn e (map ends other)) (sym r.2) (in_map ends r.0 other (h r.0 touch r.1)), lies.0, lies.1)
+
+  -- where the basic arcs that touch a piece stay the same, it stays a piece
+  pub kept : (basic other : List ℕ) (s : ℕ) (ns own : List ℕ) → IsPiece n ends basic s ns own → ((a : ℕ) → IsIn a basic → IsValid F n (ends a))
+      → ((a : ℕ) → Touches ns (ends a) → IsIn a basic ↔ IsIn a other) → IsPiece n ends other s ns own
+  kept basic other s ns own p valid same = record {
+    nodes_once = p.nodes_once;
+    arcs_once = p.arcs_once;
+    has_least = p.has_least;
+    is_least = p.is_least;
+    joined = λ v. (
+      (λ i. let r = (p.joined v).0 i in
+          let w = Walks.within (λ x. IsIn x ns) (map ends basic) (map ends other)
+          (crossing basic s ns own p valid basic other (λ a t k. k) (λ a t k. (same a t).0 k)) r.1.0 s v p.has_least r.1.1 in
+          (r.0, (r.1.0, w.0))),
+      (λ r. let w = Walks.within (λ x. IsIn x ns) (map ends other) (map ends basic)
+          (crossing basic s ns own p valid other basic (λ a t k. (same a t).1 k) (λ a t k. (same a t).1 k)) r.1.0 s v p.has_least r.1.1 in
+          w.1),
+    );
+    touched = λ a. (
+      (λ i. let r = (p.touched a).0 i in ((same a r.1).0 r.0, r.1)),
+      (λ r. (p.touched a).1 ((same a r.1).1 r.0, r.1)),
+    );
+  }
 
   -- a sum over a list in which only the entries of a shorter one count
   pub total_only : (f : ℕ → Scalar) (few all : List ℕ) → AreDistinct few → AreDistinct all → ((a : ℕ) → IsIn a few → IsIn a all)

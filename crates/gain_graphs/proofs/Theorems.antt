@@ -19,6 +19,7 @@ use Rattle.gain_graphs.proofs.Cycles
 use Rattle.gain_graphs.proofs.Simple
 use Rattle.gain_graphs.proofs.Turning
 use Rattle.gain_graphs.proofs.Search
+use Rattle.gain_graphs.proofs.Pieces
 
 module _ {Scalar : Type 0} (F : Field Scalar) where
   infixl 60 ◌⊕◌
@@ -170,3 +171,6 @@ module _ {Scalar : Type 0} (F : Field Scalar) where
 
       back : (u : ℕ) → IsIn u ms → IsIn u ns
       back u k = let r = (q.joined u).0 k in (p.joined u).1 (r.0, across first least ((q.joined v).0 j).1 ((p.joined v).0 i).1 u r.1)
+
+  pub piece_is_kept : Laws.PieceIsKept F
+  piece_is_kept n ends basic other valid least ns arcs p same = Pieces.kept F n ends basic other least ns arcs p valid same

@@ -1,7 +1,7 @@
 -- Augmented forests: the basic arcs of a network fall into pieces, each a quasi-tree. Nodes and arcs are numbered.
-use Rattle.std.specs.Prelude.{◌≡◌, ◌≢◌, ◌↔◌, ◌<◌, ◌≤◌, ℕ, List, map, length}
+use Rattle.std.specs.Prelude.{◌≢◌, ◌↔◌, ◌<◌, ◌≤◌, ℕ, List, map}
 use Rattle.gain_graphs.specs.Field.{Field}
-use Rattle.gain_graphs.specs.Arcs.{IsIn, AreDistinct, Ends, Link, Drain, Feed, Touches, AreJoined, balance}
+use Rattle.gain_graphs.specs.Arcs.{IsIn, AreDistinct, Ends, Link, Drain, Feed, Touches, AreJoined}
 use Rattle.gain_graphs.specs.QuasiTrees.{IsQuasiTree}
 
 -- the nodes below n that walks over basic links join to this one, which is the least of them, and the basic arcs that touch them
@@ -25,9 +25,3 @@ module _ {Scalar : Type 0} (field : Field Scalar) (n : ℕ) where
   -- each piece is a quasi-tree
   abbrev pub IsForest : (ℕ → Ends Scalar) → List ℕ → Type 0
   IsForest ends basic = (least : ℕ) (nodes arcs : List ℕ) → IsPiece n ends basic least nodes arcs → IsQuasiTree field nodes (map ends arcs)
-
-  -- as many basic arcs as nodes, and on them no flow but 0 takes nothing from every node: so their columns of coefficients are a basis
-  pub record IsBasis (ends : ℕ → Ends Scalar) (basic : List ℕ) : Type 0 where
-    pub once : AreDistinct basic
-    pub as_many : length basic ≡ n
-    pub independent : (flow : ℕ → Scalar) → ((v : ℕ) → v < n → balance field ends flow basic v ≡ zero) → (a : ℕ) → IsIn a basic → flow a ≡ zero

@@ -1,9 +1,10 @@
 -- The laws: of potentials, node weights and flows on a quasi-tree, of its one-ended arc or its cycle, and of the pieces of a forest.
 use Rattle.std.specs.Prelude.{◌≡◌, ◌≢◌, ◌⊎◌, ◌↔◌, ◌<◌, ℕ, List, [], ◌∷◌, map}
 use Rattle.gain_graphs.specs.Field.{Field, total}
-use Rattle.gain_graphs.specs.Arcs.{IsIn, AreDistinct, Ends, Link, Drain, HasOneEnd, coefficient, balance, pull, reduced_cost}
+use Rattle.gain_graphs.specs.Arcs.{IsIn, AreDistinct, Ends, Link, Drain, HasOneEnd, Touches, coefficient, balance, pull, reduced_cost}
 use Rattle.gain_graphs.specs.QuasiTrees.{LiesIn, IsQuasiTree}
-use Rattle.gain_graphs.specs.Forests.{IsValid, IsPiece, IsForest, IsBasis}
+use Rattle.gain_graphs.specs.Forests.{IsValid, IsPiece, IsForest}
+use Rattle.gain_graphs.specs.Bases.{IsBasis, IsDirection, IsExchanged}
 use Rattle.gain_graphs.specs.Cycles.{arcs_along, IsNoLoop, IsCycle, IsLeastFirst, gain_along}
 
 module _ {Scalar : Type 0} (field : Field Scalar) where
@@ -102,10 +103,34 @@ module _ {Scalar : Type 0} (field : Field Scalar) where
       → (first : ℕ) (others theirs : List ℕ) → IsPiece n ends basic first others theirs → (v : ℕ) → IsIn v nodes → IsIn v others
       → (least ≡ first) × ((u : ℕ) → IsIn u nodes ↔ IsIn u others) × ((a : ℕ) → IsIn a arcs ↔ IsIn a theirs)
 
+  -- where the basic arcs that touch a piece stay the same, it stays a piece
+  abbrev pub PieceIsKept : Type 0
+  PieceIsKept = (n : ℕ) (ends : ℕ → Ends Scalar) (basic other : List ℕ) → ((a : ℕ) → IsIn a basic → IsValid field n (ends a))
+      → (least : ℕ) (nodes arcs : List ℕ) → IsPiece n ends basic least nodes arcs
+      → ((a : ℕ) → Touches nodes (ends a) → IsIn a basic ↔ IsIn a other) → IsPiece n ends other least nodes arcs
+
+  -- ---- bases
+
   -- the bases of a network are its augmented forests
   abbrev pub BasesAreForests : Type 0
   BasesAreForests = (n : ℕ) (ends : ℕ → Ends Scalar) (basic : List ℕ) → AreDistinct basic → ((a : ℕ) → IsIn a basic → IsValid field n (ends a))
       → IsBasis field n ends basic ↔ IsForest field n ends basic
+
+  -- an arc outside of a basis has a direction with any amount on it
+  abbrev pub DirectionExists : Type 0
+  DirectionExists = (n : ℕ) (ends : ℕ → Ends Scalar) (basic : List ℕ) → ((a : ℕ) → IsIn a basic → IsValid field n (ends a)) → IsBasis field n ends basic
+      → (enter : ℕ) → (¬ IsIn enter basic) → (amount : Scalar) → (flow : ℕ → Scalar) × (flow enter ≡ amount) × IsDirection field n ends basic enter flow
+
+  -- and no other
+  abbrev pub DirectionIsUnique : Type 0
+  DirectionIsUnique = (n : ℕ) (ends : ℕ → Ends Scalar) (basic : List ℕ) → IsBasis field n ends basic → (enter : ℕ) (x y : ℕ → Scalar)
+      → IsDirection field n ends basic enter x → IsDirection field n ends basic enter y → x enter ≡ y enter → (a : ℕ) → IsIn a basic → x a ≡ y a
+
+  -- where it enters, and an arc leaves on which its direction is not 0, the basic arcs are a basis again
+  abbrev pub ExchangeKeepsBasis : Type 0
+  ExchangeKeepsBasis = (n : ℕ) (ends : ℕ → Ends Scalar) (basic : List ℕ) → IsBasis field n ends basic → (enter leave : ℕ)
+      → (¬ IsIn enter basic) → IsIn leave basic → (flow : ℕ → Scalar) → IsDirection field n ends basic enter flow → flow leave ≢ zero
+      → (other : List ℕ) → IsExchanged basic other enter leave → IsBasis field n ends other
 
   -- ---- examples
 

@@ -4,7 +4,7 @@
 //! the nodes and the ends of the arcs.
 
 ghost use Rattle.gain_graphs.specs.Field.{Field};
-ghost use Rattle.gain_graphs.specs.Laws.{PullIsSum, PotentialsExist, PotentialsAreUnique, WeightsExist, FlowExists, FlowIsUnique, NoCirculation, ExtraExists, OneEndIsUnique, NotBoth, CycleIsUnique, LeastFirstExists, LeastFirstIsUnique, CycleIsNotBreakeven, PieceExists, PieceIsUnique, BasesAreForests, RootedExample, CycleExample, FieldExample};
+ghost use Rattle.gain_graphs.specs.Laws.{PullIsSum, PotentialsExist, PotentialsAreUnique, WeightsExist, FlowExists, FlowIsUnique, NoCirculation, ExtraExists, OneEndIsUnique, NotBoth, CycleIsUnique, LeastFirstExists, LeastFirstIsUnique, CycleIsNotBreakeven, PieceExists, PieceIsUnique, PieceIsKept, BasesAreForests, DirectionExists, DirectionIsUnique, ExchangeKeepsBasis, RootedExample, CycleExample, FieldExample};
 
 /// The pull of node weights on an arc, `w(i) - g * w(j)` for a link from i to j, `w(v)` for a drain and `-w(v)` for a feed, is their
 /// sum over the nodes, each times the arc's incidence coefficient there.
@@ -46,16 +46,29 @@ pub fn cycle<Scalar>()
     ensures not_breakeven { (field : Field Scalar) → CycleIsNotBreakeven field }
 {}
 
-/// Each node lies in one piece of the basic arcs, and in no other.
+/// Each node lies in one piece of the basic arcs, and in no other. Where the basic arcs that touch a piece stay the same, it stays a piece.
 pub fn pieces<Scalar>()
     ensures exist { (field : Field Scalar) → PieceExists field }
     ensures unique { (field : Field Scalar) → PieceIsUnique field }
+    ensures kept { (field : Field Scalar) → PieceIsKept field }
 {}
 
 /// The bases of a network are its augmented forests: n arcs on which no flow but 0 takes nothing from every node are those whose pieces are
 /// quasi-trees.
 pub fn bases<Scalar>()
     ensures { (field : Field Scalar) → BasesAreForests field }
+{}
+
+/// An arc outside of a basis has one direction: a flow on it and the basic arcs, with a given amount on it, that takes nothing from any node.
+pub fn directions<Scalar>()
+    ensures exist { (field : Field Scalar) → DirectionExists field }
+    ensures unique { (field : Field Scalar) → DirectionIsUnique field }
+{}
+
+/// Where an arc enters a basis, and one leaves on which the direction of the first is not 0, the basic arcs are a basis again: after a pivot
+/// they are an augmented forest.
+pub fn exchange<Scalar>()
+    ensures { (field : Field Scalar) → ExchangeKeepsBasis field }
 {}
 
 /// There are quasi-trees of both kinds: a node with a drain, and two nodes with two links, one of gain 1 and one of another gain. And there
