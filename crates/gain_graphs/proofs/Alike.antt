@@ -36,11 +36,11 @@ module _ {Scalar : Type 0} (ends : ℕ → Ends Scalar) where
           (λ b j. subst (λ l. IsIn b l) (sym (append_assoc pa (y.0 ∷ []) (arcs_along t))) (s b (inr j))))
 
   -- two cycles over the same arcs from one node are the same
-  pub same_round : (own : List ℕ) (k : ℕ) (w w' : List (ℕ × ℕ)) → IsLeastFirst ends own k w → IsLeastFirst ends own k w'
+  pub same_cycle : (own : List ℕ) (k : ℕ) (w w' : List (ℕ × ℕ)) → IsLeastFirst ends own k w → IsLeastFirst ends own k w'
       → ((b : ℕ) → IsIn b (arcs_along w) → IsIn b (arcs_along w')) → ((b : ℕ) → IsIn b (arcs_along w') → IsIn b (arcs_along w)) → w ≡ w'
-  same_round own k [] w' c c' s s' = absurd c.goes_up
-  same_round own k (y ∷ t) [] c c' s s' = absurd c'.goes_up
-  same_round own k (y ∷ t) (y' ∷ t') c c' s s' = go (s' y'.0 (inl refl)) (s y.0 (inl refl))
+  same_cycle own k [] w' c c' s s' = absurd c.goes_up
+  same_cycle own k (y ∷ t) [] c c' s s' = absurd c'.goes_up
+  same_cycle own k (y ∷ t) (y' ∷ t') c c' s s' = go (s' y'.0 (inl refl)) (s y.0 (inl refl))
     where
       -- where the first arcs are the same, so are the rests
       on : y'.0 ≡ y.0 → (y ∷ t) ≡ (y' ∷ t')

@@ -14,7 +14,7 @@ use Rattle.gain_graphs.proofs.Rigid
 use Rattle.gain_graphs.proofs.Weights
 use Rattle.gain_graphs.proofs.Pieces
 use Rattle.gain_graphs.proofs.Parts
-use Rattle.gain_graphs.proofs.Shapes
+use Rattle.gain_graphs.proofs.Joined
 use Rattle.gain_graphs.proofs.Search
 use Rattle.gain_graphs.proofs.Walks
 use Rattle.gain_graphs.proofs.Theorems
@@ -34,7 +34,7 @@ module _ {Scalar : Type 0} (F : Field Scalar) (n : ℕ) (ends : ℕ → Ends Sca
   piece_is_quasi_tree : (basic : List ℕ) → AreDistinct basic → ((a : ℕ) → IsIn a basic → IsValid F n (ends a)) → length basic ≡ n → Rigid.IsRigid F (upto n) (map ends basic)
       → (s : ℕ) (ms its : List ℕ) → IsPiece n ends basic s ms its → IsQuasiTree F ms (map ends its)
   piece_is_quasi_tree basic once valid as_many rigid s ms its q =
-      Shapes.quasi_tree F ms (map ends its) q.nodes_once (s, q.has_least) (Pieces.lies_map F n ends ms its lies) joined (length_map ends its ∙ even) (Parts.part_rigid F (upto n) (map ends basic) ms (map ends its) mine rigid)
+      Joined.quasi_tree F ms (map ends its) q.nodes_once (s, q.has_least) (Pieces.lies_map F n ends ms its lies) joined (length_map ends its ∙ even) (Parts.part_rigid F (upto n) (map ends basic) ms (map ends its) mine rigid)
     where
       lies_all : (a : ℕ) → IsIn a basic → LiesIn F (upto n) (ends a)
       lies_all a k = lies_in_all (ends a) (valid a k)

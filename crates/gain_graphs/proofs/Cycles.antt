@@ -18,7 +18,7 @@ module _ {Scalar : Type 0} (F : Field Scalar) (ends : ℕ → Ends Scalar) where
   infixl 70 ◌⊗◌
   open F use {one, ◌⊕◌, ◌⊗◌, negated, inverse, plus_negated, times_assoc, times_one}
 
-  -- a round as a walk
+  -- a way as a walk
   unfoldable pub step_of : (e : Ends Scalar) (u x : ℕ) → Joins e u x → Step Scalar
   step_of (Link i j g) u x (inl r) = Along i j g
   step_of (Link i j g) u x (inr r) = Against i j g
@@ -42,7 +42,7 @@ module _ {Scalar : Type 0} (F : Field Scalar) (ends : ℕ → Ends Scalar) where
   steps_walk own xs (x ∷ w) u v r sub =
       step_walk (map ends xs) (ends x.0) u x.1 v r.1 (steps own w x.1 v r.2) (in_map ends x.0 xs (sub x.0 (inl refl))) (steps_walk own xs w x.1 v r.2 (λ a i. sub a (inr i)))
 
-  -- where the sum at the first link is 1, and the rest of the round takes its end back to its beginning, the gain round it is not 1
+  -- where the pull on the first link is 1, and 0 on those that lead on from its end to its beginning, the product of all is not 1
   first_apart : (ns : List ℕ) (e : Ends Scalar) (u x : ℕ) (j : Joins e u x) (st : List (Step Scalar)) (q : ℕ → Scalar) → LiesIn F ns e → pull F e q ≡ one → q x ≡ product F st ⊗ q u
       → product F (step_of e u x j ∷ st) ≢ one
   unfolding step_of
@@ -58,22 +58,22 @@ module _ {Scalar : Type 0} (F : Field Scalar) (ends : ℕ → Ends Scalar) where
   pub others_of : (own before : List ℕ) (a : ℕ) (after : List ℕ) → before ++ a ∷ after ≡ own → (xs : List ℕ) → ((b : ℕ) → IsIn b xs → IsIn b own) → (¬ IsIn a xs) → (b : ℕ) → IsIn b xs → IsIn b (before ++ after)
   others_of own before a after e xs sub h b i = elim (in_others b before a after (subst (λ t. IsIn b t) (sym e) (sub b i))) [ inl p ↦ absurd (h (subst (λ t. IsIn t xs) p i)) | inr k ↦ k ]
 
-  -- the cycle of a piece is not breakeven
-  pub apart_round : (ns own : List ℕ) → IsQuasiTree F ns (map ends own) → ((a : ℕ) → IsIn a own → LiesIn F ns (ends a)) → (k : ℕ) (w : List (ℕ × ℕ)) → (c : IsCycle ends own k w)
+  -- the cycle of a quasi-tree is not breakeven
+  pub not_breakeven : (ns own : List ℕ) → IsQuasiTree F ns (map ends own) → ((a : ℕ) → IsIn a own → LiesIn F ns (ends a)) → (k : ℕ) (w : List (ℕ × ℕ)) → (c : IsCycle ends own k w)
       → product F (steps own w k k c.closes) ≢ one
   unfolding steps
-  apart_round ns own p lies k [] c = absurd c.has_arc
-  apart_round ns own p lies k (x ∷ t) c =
+  not_breakeven ns own p lies k [] c = absurd c.has_arc
+  not_breakeven ns own p lies k (x ∷ t) c =
       let r = split_at x.0 own c.closes.0 in
       let y = Weights.of_arc F ends ns own p.nodes_once lies (sym (length_map ends own) ∙ p.as_many) (Rigid.quasi_tree_rigid F ns (map ends own) p) r.0 x.0 r.1 r.2 in
-      let walk = steps_walk own (r.0 ++ r.1) t x.1 k c.closes.2 (λ b i. others_of own r.0 x.0 r.1 r.2 (arcs_along t) (Ways.round_arcs ends own t x.1 k c.closes.2) c.arcs_once.0 b i) in
+      let walk = steps_walk own (r.0 ++ r.1) t x.1 k c.closes.2 (λ b i. others_of own r.0 x.0 r.1 r.2 (arcs_along t) (Ways.way_arcs ends own t x.1 k c.closes.2) c.arcs_once.0 b i) in
       first_apart ns (ends x.0) k x.1 c.closes.1 (steps own t x.1 k c.closes.2) y.weight (lies x.0 c.closes.0) y.own
       (Rigid.along F ns (map ends (r.0 ++ r.1)) y.weight
       (λ b i. let m = in_map_of ends b (r.0 ++ r.1) i in subst (LiesIn F ns) (sym m.2) (lies m.0 (subst (λ z. IsIn m.0 z) r.2 (in_with m.0 r.0 x.0 r.1 m.1))))
       (λ b i. let m = in_map_of ends b (r.0 ++ r.1) i in ap (λ z. pull F z y.weight) m.2 ∙ y.other m.0 m.1)
       (steps own t x.1 k c.closes.2) x.1 k walk)
 
-  -- the ends of an arc of a round are joined to its ends without it
+  -- without an arc of a way its ends are joined to those of the way
   bypass : (own before : List ℕ) (a : ℕ) (after : List ℕ) → before ++ a ∷ after ≡ own → (w : List (ℕ × ℕ)) (u v : ℕ) → IsWay ends own u w v → AreDistinct (arcs_along w) → IsIn a (arcs_along w)
       → (p : ℕ) × (q : ℕ) × Joins (ends a) p q × AreJoined (map ends (before ++ after)) u p × AreJoined (map ends (before ++ after)) q v
   bypass own before a after e [] u v r d i = absurd i
@@ -82,7 +82,7 @@ module _ {Scalar : Type 0} (F : Field Scalar) (ends : ℕ → Ends Scalar) where
     x.1,
     subst (λ t. Joins (ends t) u x.1) (sym m) r.1,
     ([], refl),
-    (steps own w x.1 v r.2, steps_walk own (before ++ after) w x.1 v r.2 (others_of own before a after e (arcs_along w) (Ways.round_arcs ends own w x.1 v r.2) (λ j. d.0 (subst (λ t. IsIn t (arcs_along w)) m j)))),
+    (steps own w x.1 v r.2, steps_walk own (before ++ after) w x.1 v r.2 (others_of own before a after e (arcs_along w) (Ways.way_arcs ends own w x.1 v r.2) (λ j. d.0 (subst (λ t. IsIn t (arcs_along w)) m j)))),
   )
   bypass own before a after e (x ∷ w) u v r d (inr i) =
       let b = bypass own before a after e w x.1 v r.2 d.1 i in
@@ -98,7 +98,7 @@ module _ {Scalar : Type 0} (F : Field Scalar) (ends : ℕ → Ends Scalar) where
   starts ns own lies k [] c = absurd c.has_arc
   starts ns own lies k (x ∷ w) c = joins_in ns (ends x.0) k x.1 c.closes.1 (lies x.0 c.closes.0)
 
-  -- an arc whose ends are joined without it, and an extra arc among the others: not in a piece
+  -- an arc whose ends are joined without it, with what is more than a tree among the others: there is none in a quasi-tree
   no_bridge : (ns : List ℕ) (before : List (Ends Scalar)) (e : Ends Scalar) (after : List (Ends Scalar)) → IsQuasiTree F ns (before ++ e ∷ after) → (p q : ℕ) → Joins e p q → AreJoined (before ++ after) q p
       → (((b : Ends Scalar) × IsIn b (before ++ after) × HasOneEnd b)
       ⊎ ((v : ℕ) × (w : List (Step Scalar)) × IsIn v ns × IsWalk (before ++ after) v w v × (product F w ≢ one))) → ⊥
@@ -109,13 +109,13 @@ module _ {Scalar : Type 0} (F : Field Scalar) (ends : ℕ → Ends Scalar) where
   no_bridge ns before (Drain i) after s p q k r x = absurd k
   no_bridge ns before (Feed i) after s p q k r x = absurd k
 
-  -- an arc of one cycle of a piece stands in every other
+  -- an arc of one cycle of a quasi-tree stands in every other
   pub shared : (ns own : List ℕ) → IsQuasiTree F ns (map ends own) → ((a : ℕ) → IsIn a own → LiesIn F ns (ends a)) → (k : ℕ) (w : List (ℕ × ℕ)) → IsCycle ends own k w
       → (k' : ℕ) (w' : List (ℕ × ℕ)) → IsCycle ends own k' w' → (a : ℕ) → IsIn a (arcs_along w) → IsIn a (arcs_along w')
   shared ns own p lies k w c k' w' c' a i = elim (decide_in a (arcs_along w')) [ yes j ↦ j | no h ↦ absurd (none h) ]
     where
       r : (before : List ℕ) × (after : List ℕ) × (before ++ a ∷ after ≡ own)
-      r = split_at a own (Ways.round_arcs ends own w k k c.closes a i)
+      r = split_at a own (Ways.way_arcs ends own w k k c.closes a i)
 
       others : map ends (r.0 ++ r.1) ≡ map ends r.0 ++ map ends r.1
       others = map_append ends r.0 r.1
@@ -133,8 +133,8 @@ module _ {Scalar : Type 0} (F : Field Scalar) (ends : ℕ → Ends Scalar) where
             k',
             steps own w' k' k' c'.closes,
             starts ns own lies k' w' c',
-            subst (λ t. IsWalk t k' (steps own w' k' k' c'.closes) k') others (steps_walk own (r.0 ++ r.1) w' k' k' c'.closes (others_of own r.0 a r.1 r.2 (arcs_along w') (Ways.round_arcs ends own w' k' k' c'.closes) h)),
-            apart_round ns own p lies k' w' c',
+            subst (λ t. IsWalk t k' (steps own w' k' k' c'.closes) k') others (steps_walk own (r.0 ++ r.1) w' k' k' c'.closes (others_of own r.0 a r.1 r.2 (arcs_along w') (Ways.way_arcs ends own w' k' k' c'.closes) h)),
+            not_breakeven ns own p lies k' w' c',
           ))
 
   -- the least node of one cycle is at least that of the other
@@ -148,10 +148,10 @@ module _ {Scalar : Type 0} (F : Field Scalar) (ends : ℕ → Ends Scalar) where
       go (inl e) = omega arith
       go (inr i) = c'.is_least k i
 
-  -- a piece has at most one cycle
+  -- two walks of the cycle of a quasi-tree, least first, are the same
   pub one_cycle : (ns own : List ℕ) → IsQuasiTree F ns (map ends own) → ((a : ℕ) → IsIn a own → LiesIn F ns (ends a)) → (k : ℕ) (w : List (ℕ × ℕ)) → IsLeastFirst ends own k w
       → (k' : ℕ) (w' : List (ℕ × ℕ)) → IsLeastFirst ends own k' w' → (k ≡ k') × (w ≡ w')
-  one_cycle ns own p lies k w c k' w' c' = (same, Alike.same_round ends own k w w' c c'' (shared ns own p lies k w c.cycle k' w' c'.cycle) (shared ns own p lies k' w' c'.cycle k w c.cycle))
+  one_cycle ns own p lies k w c k' w' c' = (same, Alike.same_cycle ends own k w w' c c'' (shared ns own p lies k w c.cycle k' w' c'.cycle) (shared ns own p lies k' w' c'.cycle k w c.cycle))
     where
       same : k ≡ k'
       same = let a : k' ≤ k = below ns own p lies k w c k' w' c' in let b : k ≤ k' = below ns own p lies k' w' c' k w c in omega arith

@@ -1,21 +1,12 @@
 -- A basis stays one when an arc enters whose direction is not 0 on the arc that leaves.
-use Rattle.std.proofs.Common.{◌≡◌, ◌≢◌, inl, inr, sym, ap, refl, ◌∙◌, subst, ap₂, ℕ, ◌<◌, List, [], ◌∷◌, ◌++◌, length, arith}
+use Rattle.std.proofs.Common.{◌≡◌, ◌≢◌, inl, inr, sym, ap, ◌∙◌, subst, ap₂, ℕ, ◌<◌, List, [], ◌∷◌, ◌++◌, length, arith}
 use Rattle.gain_graphs.specs.Field.{Field, total}
 use Rattle.gain_graphs.specs.Arcs.{IsIn, AreDistinct, Ends, coefficient, balance}
 use Rattle.gain_graphs.specs.Bases.{IsBasis, IsExchanged, IsDirection}
-use Rattle.gain_graphs.proofs.Lists.{in_back, in_others, in_with, length_marked, split_at, at_most}
+use Rattle.gain_graphs.proofs.Lists.{others_once, in_others, in_with, length_marked, split_at, at_most}
 use Rattle.gain_graphs.proofs.Algebra
 use Rattle.gain_graphs.proofs.Sums
 use Rattle.gain_graphs.proofs.Pieces
-
--- what is left of distinct numbers when one is taken out
-others_once : (before : List ℕ) (a : ℕ) (after : List ℕ) → AreDistinct (before ++ a ∷ after) → AreDistinct (before ++ after) × (¬ IsIn a (before ++ after))
-others_once [] a after d = (d.1, d.0)
-others_once (b ∷ before) a after d =
-    let r = others_once before a after d.1 in (
-      (λ i. d.0 (in_with b before a after i), r.0),
-      elim [ inl p ↦ d.0 (subst (λ t. IsIn t (before ++ a ∷ after)) p (in_back a before (a ∷ after) (inl refl))) | inr i ↦ r.1 i ],
-    )
 
 module _ {Scalar : Type 0} (F : Field Scalar) (n : ℕ) (ends : ℕ → Ends Scalar) where
   infixl 60 ◌⊕◌

@@ -59,7 +59,7 @@ module _ {Scalar : Type 0} (F : Field Scalar) (ends : ℕ → Ends Scalar) (ns a
       k : Scalar
       k = coefficient F (ends a) v
 
-  -- a column of coefficients is that of the unit at its node
+  -- the column of a node is 1 at it and 0 at each other
   unit : (v : ℕ) → IsIn v ns → (u : ℕ) → IsIn u ns → column v [] arcs refl u ≡ only_at F v one u
   unfolding column
   unit v i u j = Algebra.same_of F (p u) (z u) (ap (λ t. p u ⊕ t) (sym (Algebra.negated_times F one (z u) ∙ ap negated (Algebra.one_times F (z u)))) ∙ rigid q flat u j)

@@ -18,7 +18,7 @@ pub mod Theorems
 pub mod Examples
 pub mod Three
 pub mod Parts
-pub mod Shapes
+pub mod Joined
 pub mod Pieces
 pub mod Bases
 pub mod Exchange

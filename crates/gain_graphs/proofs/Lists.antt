@@ -92,3 +92,12 @@ once_right (x ∷ xs) ys d = once_right xs ys d.1
 
 pub swap_once : (xs ys : List ℕ) → AreDistinct (xs ++ ys) → AreDistinct (ys ++ xs)
 swap_once xs ys d = distinct_append ys xs (once_right xs ys d) (once_left xs ys d) (λ z i j. apart_parts xs ys d z j i)
+
+-- distinct numbers with one taken out
+pub others_once : (before : List ℕ) (a : ℕ) (after : List ℕ) → AreDistinct (before ++ a ∷ after) → AreDistinct (before ++ after) × (¬ IsIn a (before ++ after))
+others_once [] a after d = (d.1, d.0)
+others_once (b ∷ before) a after d =
+    let r = others_once before a after d.1 in (
+      (λ i. d.0 (in_with b before a after i), r.0),
+      elim [ inl p ↦ d.0 (subst (λ t. IsIn t (before ++ a ∷ after)) p (in_back a before (a ∷ after) (inl refl))) | inr i ↦ r.1 i ],
+    )

@@ -78,11 +78,6 @@ module _ {Scalar : Type 0} (F : Field Scalar) (n : ℕ) (ends : ℕ → Ends Sca
   untouched_coefficient ns (Drain i) v k h = Sums.put_other F i one (λ _. zero) v (λ p. h (subst (λ t. IsIn t ns) p k))
   untouched_coefficient ns (Feed i) v k h = Sums.put_other F i (negated one) (λ _. zero) v (λ p. h (subst (λ t. IsIn t ns) p k))
 
-  pub touch_of : (ns : List ℕ) (e : Ends Scalar) → LiesIn F ns e → Touches ns e
-  touch_of ns (Link i j g) l = inl l.0
-  touch_of ns (Drain i) l = l
-  touch_of ns (Feed i) l = l
-
   pub lies_map : (ns own : List ℕ) → ((a : ℕ) → IsIn a own → LiesIn F ns (ends a)) → (e : Ends Scalar) → IsIn e (map ends own) → LiesIn F ns e
   lies_map ns own h e i = let r = in_map_of ends e own i in subst (λ t. LiesIn F ns t) (sym r.2) (h r.0 r.1)
 

@@ -1,4 +1,4 @@
--- Where only the weights 0 have the pull 0 at each arc.
+-- Where only the weights 0 have the pull 0 on each arc.
 use Rattle.std.proofs.Common.{◌≡◌, ◌≢◌, ◌⊎◌, inl, inr, sym, ap, refl, ◌∙◌, ap₂, ℕ, ◌<◌, ◌≤◌, List, [], ◌∷◌, length, map, arith}
 use Rattle.gain_graphs.specs.Field.{Field}
 use Rattle.gain_graphs.specs.Arcs.{IsIn, AreDistinct, Ends, Link, Drain, Feed, Step, Along, Against, HasOneEnd, IsWalk, AreJoined, product, only_at, coefficient, pull}
@@ -31,11 +31,11 @@ module _ {Scalar : Type 0} (F : Field Scalar) where
   dot_coefficient ns (Drain i) q d l = dot_only_at ns i one q d l ∙ Algebra.one_times F (q i)
   dot_coefficient ns (Feed i) q d l = dot_only_at ns i (negated one) q d l ∙ Algebra.negated_times F one (q i) ∙ ap negated (Algebra.one_times F (q i))
 
-  -- only the weights 0 have the sum 0 at each arc
+  -- only the weights 0 have the pull 0 on each arc
   abbrev pub IsRigid : List ℕ → List (Ends Scalar) → Type 0
   IsRigid ns arcs = (q : ℕ → Scalar) → ((a : Ends Scalar) → IsIn a arcs → pull F a q ≡ zero) → (v : ℕ) → IsIn v ns → q v ≡ zero
 
-  -- along a walk of links at which the sum is 0
+  -- along a walk over links on which the pull is 0
   pub along : (ns : List ℕ) (arcs : List (Ends Scalar)) (q : ℕ → Scalar) → ((a : Ends Scalar) → IsIn a arcs → LiesIn F ns a) → ((a : Ends Scalar) → IsIn a arcs → pull F a q ≡ zero)
       → (w : List (Step Scalar)) (u v : ℕ) → IsWalk arcs u w v → q u ≡ product F w ⊗ q v
   along ns arcs q lies flat [] u v k = ap q k ∙ sym (Algebra.one_times F (q v))
@@ -65,7 +65,7 @@ module _ {Scalar : Type 0} (F : Field Scalar) where
   pull_plus (Drain i) p q = refl
   pull_plus (Feed i) p q = Algebra.negated_of_sum F (p i) (q i)
 
-  -- arcs that join the nodes and hold an extra arc
+  -- arcs that join the nodes, and one more
   pub record Spans (ns : List ℕ) (arcs : List (Ends Scalar)) : Type 0 where
     pub nodes_once : AreDistinct ns
     pub ends_inside : (a : Ends Scalar) → IsIn a arcs → LiesIn F ns a
@@ -90,7 +90,7 @@ module _ {Scalar : Type 0} (F : Field Scalar) where
       one_ended (Drain i) k h = spread i (p.ends_inside (Drain i) k) (flat (Drain i) k)
       one_ended (Feed i) k h = spread i (p.ends_inside (Feed i) k) (sym (Algebra.negated_twice F (q i)) ∙ ap negated (flat (Feed i) k) ∙ Algebra.negated_zero F)
 
-  -- only the weights 0 have the pull 0 at each arc of a quasi-tree
+  -- so it is in a quasi-tree
   pub quasi_tree_rigid : (ns : List ℕ) (arcs : List (Ends Scalar)) → IsQuasiTree F ns arcs → IsRigid ns arcs
   quasi_tree_rigid ns arcs p = spans_rigid ns arcs (record {
     nodes_once = p.nodes_once;
@@ -101,7 +101,7 @@ module _ {Scalar : Type 0} (F : Field Scalar) where
     extra = p.extra;
   })
 
-  -- where only the weights 0 have the sums 0, there are at least as many arcs as nodes
+  -- then there are at least as many arcs as nodes
   pub enough : (ns : List ℕ) (arcs : List (Ends Scalar)) → AreDistinct ns → ((a : Ends Scalar) → IsIn a arcs → LiesIn F ns a) → IsRigid ns arcs → length ns ≤ length arcs
   enough ns arcs d lies r = elim (cases (length arcs) (length ns)) [ inl l ↦ absurd (short l) | inr l ↦ l ]
     where

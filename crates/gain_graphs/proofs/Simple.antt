@@ -12,7 +12,7 @@ module _ {Scalar : Type 0} (F : Field Scalar) (ends : ℕ → Ends Scalar) where
   infixl 70 ◌⊗◌
   open F use {zero, one, ◌⊗◌, inverse, times_assoc, times_one, times_inverse}
 
-  -- a link's ends differ, and its gain_along F ends is not 0
+  -- a link's ends differ, and its gain is not 0
   abbrev pub IsSound : Ends Scalar → Type 0
   IsSound (Link i j g) = (i ≢ j) × (g ≢ zero)
   IsSound (Drain i) = Unit {0}
@@ -42,19 +42,19 @@ module _ {Scalar : Type 0} (F : Field Scalar) (ends : ℕ → Ends Scalar) where
   apart_ends (Drain i) u x s r m = absurd r
   apart_ends (Feed i) u x s r m = absurd r
 
-  -- a walk of links as a round of arcs
-  round_of : (own : List ℕ) → ((a : ℕ) → IsIn a own → IsSound (ends a)) → (st : List (Step Scalar)) (u v : ℕ) → IsWalk (map ends own) u st v → (w : List (ℕ × ℕ)) × IsWay ends own u w v × (gain_along F ends u w ≡ product F st)
-  round_of own sound [] u v k = ([], k, refl)
-  round_of own sound (Along i j g ∷ st) u v k =
+  -- a walk of links as a way
+  way_of : (own : List ℕ) → ((a : ℕ) → IsIn a own → IsSound (ends a)) → (st : List (Step Scalar)) (u v : ℕ) → IsWalk (map ends own) u st v → (w : List (ℕ × ℕ)) × IsWay ends own u w v × (gain_along F ends u w ≡ product F st)
+  way_of own sound [] u v k = ([], k, refl)
+  way_of own sound (Along i j g ∷ st) u v k =
       let m = in_map_of ends (Link i j g) own k.1 in
-      let r = round_of own sound st j v k.2 in (
+      let r = way_of own sound st j v k.2 in (
         (m.0, j) ∷ r.0,
         (m.1, subst (λ t. Joins t u j) m.2 (inl (k.0, refl)), r.1),
         ap₂ (λ a b. a ⊗ b) (ap (λ t. gain_from F t u) (sym m.2) ∙ gain_tail i j g u k.0) r.2,
       )
-  round_of own sound (Against i j g ∷ st) u v k =
+  way_of own sound (Against i j g ∷ st) u v k =
       let m = in_map_of ends (Link i j g) own k.1 in
-      let r = round_of own sound st i v k.2 in (
+      let r = way_of own sound st i v k.2 in (
         (m.0, i) ∷ r.0,
         (m.1, subst (λ t. Joins t u i) m.2 (inr (k.0, refl)), r.1),
         ap₂ (λ a b. a ⊗ b) (ap (λ t. gain_from F t u) (sym m.2) ∙ gain_head i j g u (subst IsSound (sym m.2) (sound m.0 m.1)).0 k.0) r.2,
@@ -119,7 +119,7 @@ module _ {Scalar : Type 0} (F : Field Scalar) (ends : ℕ → Ends Scalar) where
       absurd (d.1.0 (subst (λ t. IsIn t (nodes_along (z ∷ pre))) (sym m) (Ways.last_node ends own pre x.1 u z r.2)))
 
   -- a closed way without a node or an arc twice
-  pub record Simple (own : List ℕ) : Type 0 where
+  pub record SomeCycle (own : List ℕ) : Type 0 where
     pub start : ℕ
     pub first : ℕ × ℕ
     pub rest : List (ℕ × ℕ)
@@ -130,13 +130,13 @@ module _ {Scalar : Type 0} (F : Field Scalar) (ends : ℕ → Ends Scalar) where
   PathOf : List ℕ → ℕ → ℕ → Scalar → Type 0
   PathOf own u v g = (w : List (ℕ × ℕ)) × IsWay ends own u w v × AreDistinct (u ∷ nodes_along w) × (g ≡ gain_along F ends u w)
 
-  -- loops are cut out; each is there and back, or a cycle
-  erase : (own : List ℕ) → ((a : ℕ) → IsIn a own → IsSound (ends a)) → (w : List (ℕ × ℕ)) (u v : ℕ) → IsWay ends own u w v → PathOf own u v (gain_along F ends u w) ⊎ Simple own
+  -- detours are cut out: each is there and back, or a cycle
+  erase : (own : List ℕ) → ((a : ℕ) → IsIn a own → IsSound (ends a)) → (w : List (ℕ × ℕ)) (u v : ℕ) → IsWay ends own u w v → PathOf own u v (gain_along F ends u w) ⊎ SomeCycle own
   unfolding PathOf
   erase own sound [] u v r = inl ([], r, ((λ z. z), record {}), refl)
   erase own sound (x ∷ w) u v r = go (erase own sound w x.1 v r.2)
     where
-      loop : (w' : List (ℕ × ℕ)) → (gain_along F ends x.1 w ≡ gain_along F ends x.1 w') → Cut own x.1 u v w' → PathOf own u v (gain_along F ends u (x ∷ w)) ⊎ Simple own
+      loop : (w' : List (ℕ × ℕ)) → (gain_along F ends x.1 w ≡ gain_along F ends x.1 w') → Cut own x.1 u v w' → PathOf own u v (gain_along F ends u (x ∷ w)) ⊎ SomeCycle own
       loop w' e c = elim (decide_in x.0 (arcs_along c.pre)) [
         | yes i ↦ inl (
           c.suf,
@@ -148,24 +148,24 @@ module _ {Scalar : Type 0} (F : Field Scalar) (ends : ℕ → Ends Scalar) where
         | no h ↦ inr (record { start = u; first = x; rest = c.pre; closes = (r.0, r.1, c.to_u); arcs_once = (h, path_arcs own c.pre x.1 u c.to_u c.pre_once); nodes_once = c.pre_once })
       ]
 
-      go : PathOf own x.1 v (gain_along F ends x.1 w) ⊎ Simple own → PathOf own u v (gain_along F ends u (x ∷ w)) ⊎ Simple own
+      go : PathOf own x.1 v (gain_along F ends x.1 w) ⊎ SomeCycle own → PathOf own u v (gain_along F ends u (x ∷ w)) ⊎ SomeCycle own
       go (inr s) = inr s
       go (inl y) = elim (decide_in u (nodes_along y.0)) [
         | yes i ↦ loop y.0 y.3 (cut_at own y.0 x.1 u v y.1 y.2 i)
         | no h ↦ inl (x ∷ y.0, (r.0, r.1, y.1), ((λ k. elim k [ inl m ↦ apart_ends (ends x.0) u x.1 (sound x.0 r.0) r.1 m | inr l ↦ h l ]), y.2), ap (λ t. gain_from F (ends x.0) u ⊗ t) y.3)
       ]
 
-  pub simple : (own : List ℕ) → ((a : ℕ) → IsIn a own → IsSound (ends a)) → (st : List (Step Scalar)) (v : ℕ) → IsWalk (map ends own) v st v → product F st ≢ one → Simple own
+  pub simple : (own : List ℕ) → ((a : ℕ) → IsIn a own → IsSound (ends a)) → (st : List (Step Scalar)) (v : ℕ) → IsWalk (map ends own) v st v → product F st ≢ one → SomeCycle own
   unfolding PathOf
   simple own sound st v k n = go (erase own sound r.0 v v r.1)
     where
       r : (w : List (ℕ × ℕ)) × IsWay ends own v w v × (gain_along F ends v w ≡ product F st)
-      r = round_of own sound st v v k
+      r = way_of own sound st v v k
 
       none : (w : List (ℕ × ℕ)) → IsWay ends own v w v → AreDistinct (v ∷ nodes_along w) → gain_along F ends v r.0 ≡ gain_along F ends v w → ⊥
       none [] c d e = n (sym r.2 ∙ e)
       none (x ∷ w) c d e = d.0 (Ways.last_node ends own w v v x c)
 
-      go : PathOf own v v (gain_along F ends v r.0) ⊎ Simple own → Simple own
+      go : PathOf own v v (gain_along F ends v r.0) ⊎ SomeCycle own → SomeCycle own
       go (inl y) = absurd (none y.0 y.1 y.2 y.3)
       go (inr s) = s

@@ -10,11 +10,11 @@ use Rattle.gain_graphs.proofs.Rigid
 module _ {Scalar : Type 0} (F : Field Scalar) where
   open F use {one}
 
-  -- arcs that span a piece are at least as many as its nodes
+  -- arcs that span nodes are at least as many
   pub spans_enough : (ns : List ℕ) (arcs : List (Ends Scalar)) → Rigid.Spans F ns arcs → length ns ≤ length arcs
   spans_enough ns arcs p = Rigid.enough F ns arcs p.nodes_once p.ends_inside (Rigid.spans_rigid F ns arcs p)
 
-  -- no arc of a piece can be spared
+  -- no arc of a quasi-tree can be spared
   pub spare : (ns : List ℕ) (before : List (Ends Scalar)) (a : Ends Scalar) (after : List (Ends Scalar)) → length (before ++ a ∷ after) ≡ length ns → Rigid.Spans F ns (before ++ after) → ⊥
   spare ns before a after n p = let l : length ns ≤ length (before ++ after) = spans_enough ns (before ++ after) p in omega (arith, length_marked before a after)
 
@@ -27,7 +27,7 @@ module _ {Scalar : Type 0} (F : Field Scalar) where
   links_only before a after h (Against i j g ∷ w) u v k =
       (k.0, elim (in_others (Link i j g) before a after k.1) [ inl e ↦ absurd (subst (HasOneEnd) (sym e) h) | inr l ↦ l ], links_only before a after h w i v k.2)
 
-  -- of two extra arcs one could be spared: a piece has at most one arc with one end, and then no closed walk that is not breakeven
+  -- beside an arc with one end there is no other, and no closed walk that is not breakeven: the first could be spared
   pub one_extra : (ns : List ℕ) (before : List (Ends Scalar)) (a : Ends Scalar) (after : List (Ends Scalar)) → IsQuasiTree F ns (before ++ a ∷ after) → HasOneEnd a
       → (((b : Ends Scalar) × IsIn b (before ++ after) × HasOneEnd b)
       ⊎ ((v : ℕ) × (w : List (Step Scalar)) × IsIn v ns × IsWalk (before ++ a ∷ after) v w v × (product F w ≢ one))) → ⊥
@@ -61,7 +61,7 @@ module _ {Scalar : Type 0} (F : Field Scalar) where
           Walks.joined_trans (before ++ after) u a v (subst (λ t. AreJoined (before ++ after) t a) (sym (k.0 ∙ q)) (subst (λ t. AreJoined (before ++ after) j t) (sym p) r)) s
       go (inr l) s = (Against a b h ∷ s.0, (k.0, l, s.1))
 
-  -- a link on a cycle, whose ends are joined without it, is needed by each extra arc: none lies in the others. So two cycles have the same links.
+  -- where the ends of a link are joined without it, the others are a tree: no arc with one end, and no closed walk that is not breakeven
   pub on_cycle : (ns : List ℕ) (before : List (Ends Scalar)) (i j : ℕ) (g : Scalar) (after : List (Ends Scalar)) → IsQuasiTree F ns (before ++ Link i j g ∷ after) → AreJoined (before ++ after) j i
       → (((b : Ends Scalar) × IsIn b (before ++ after) × HasOneEnd b)
       ⊎ ((v : ℕ) × (w : List (Step Scalar)) × IsIn v ns × IsWalk (before ++ after) v w v × (product F w ≢ one))) → ⊥

@@ -115,8 +115,8 @@ module _ {Scalar : Type 0} (F : Field Scalar) where
         Cycles.steps F ends arcs way start start c.closes,
         Cycles.starts F ends ns arcs q start way c,
         subst (λ t. IsWalk t start (Cycles.steps F ends arcs way start start c.closes) start) (sym (ap (map ends) s.2) ∙ map_append ends s.0 (a ∷ s.1))
-            (Cycles.steps_walk F ends arcs arcs way start start c.closes (λ b j. Ways.round_arcs ends arcs way start start c.closes b j)),
-        Cycles.apart_round F ends ns arcs p q start way c,
+            (Cycles.steps_walk F ends arcs arcs way start start c.closes (λ b j. Ways.way_arcs ends arcs way start start c.closes b j)),
+        Cycles.not_breakeven F ends ns arcs p q start way c,
       ))
 
   pub cycle_is_unique : Laws.CycleIsUnique F
@@ -142,7 +142,7 @@ module _ {Scalar : Type 0} (F : Field Scalar) where
 
   pub cycle_is_not_breakeven : Laws.CycleIsNotBreakeven F
   cycle_is_not_breakeven ends ns arcs p no_loop start way c e =
-      Cycles.apart_round F ends ns arcs p (lies ends ns arcs p) start way c (sym (gain_is_product ends arcs (sound ends ns arcs p no_loop) way start start c.closes) ∙ e)
+      Cycles.not_breakeven F ends ns arcs p (lies ends ns arcs p) start way c (sym (gain_is_product ends arcs (sound ends ns arcs p no_loop) way start start c.closes) ∙ e)
 
   pub piece_exists : Laws.PieceExists F
   piece_exists n ends basic once valid v h = let r = Search.piece_of F n ends basic once valid v h in (r.least, r.nodes, r.arcs, r.piece, r.holds)

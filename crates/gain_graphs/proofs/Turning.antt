@@ -23,12 +23,12 @@ onto_holds : (xs acc : List ℕ) (z : ℕ) → IsIn z (onto xs acc) → IsIn z x
 onto_holds [] acc z i = inr i
 onto_holds (x ∷ xs) acc z i = elim (onto_holds xs (x ∷ acc) z i) [ inl k ↦ inl (inr k) | inr k ↦ elim k [ inl m ↦ inl (inl m) | inr l ↦ inr l ] ]
 
--- the nodes that the arcs of a round are left from
+-- the nodes that the arcs of a way are left from
 abbrev sources : ℕ → List (ℕ × ℕ) → List ℕ
 sources u [] = []
 sources u (x ∷ w) = u ∷ sources x.1 w
 
--- a round walked back
+-- a way walked back
 abbrev back : ℕ → List (ℕ × ℕ) → List (ℕ × ℕ) → List (ℕ × ℕ)
 back u [] acc = acc
 back u (x ∷ w) acc = back x.1 w ((x.0, u) ∷ acc)
@@ -56,9 +56,9 @@ last_in d x (y ∷ w) = inr (last_in x.0 y w)
 module _ {Scalar : Type 0} (F : Field Scalar) (ends : ℕ → Ends Scalar) where
   open F use {one}
 
-  back_round : (own : List ℕ) (w acc : List (ℕ × ℕ)) (u v z : ℕ) → IsWay ends own u w v → IsWay ends own u acc z → IsWay ends own v (back u w acc) z
-  back_round own [] acc u v z r s = subst (λ t. IsWay ends own t acc z) r s
-  back_round own (x ∷ w) acc u v z r s = back_round own w ((x.0, u) ∷ acc) x.1 v z r.2 (r.0, Ways.joins_back (ends x.0) u x.1 r.1, s)
+  way_back : (own : List ℕ) (w acc : List (ℕ × ℕ)) (u v z : ℕ) → IsWay ends own u w v → IsWay ends own u acc z → IsWay ends own v (back u w acc) z
+  way_back own [] acc u v z r s = subst (λ t. IsWay ends own t acc z) r s
+  way_back own (x ∷ w) acc u v z r s = way_back own w ((x.0, u) ∷ acc) x.1 v z r.2 (r.0, Ways.joins_back (ends x.0) u x.1 r.1, s)
 
   sources_end : (own : List ℕ) (w : List (ℕ × ℕ)) (u v : ℕ) → IsWay ends own u w v → sources u w ++ v ∷ [] ≡ u ∷ nodes_along w
   sources_end own [] u v r = ap (λ t. t ∷ []) (sym r)
@@ -81,7 +81,7 @@ module _ {Scalar : Type 0} (F : Field Scalar) (ends : ℕ → Ends Scalar) where
     is_least : (v : ℕ) → IsIn v (nodes_along way) → least ≤ v
     some : IsIn least (nodes_along way)
 
-  turn : (own : List ℕ) → Simple.Simple F ends own → Turned own
+  turn : (own : List ℕ) → Simple.SomeCycle F ends own → Turned own
   turn own s =
       let w = s.first ∷ s.rest in
       let l = Selected.least_of s.first.1 (nodes_along s.rest) in
@@ -91,7 +91,7 @@ module _ {Scalar : Type 0} (F : Field Scalar) (ends : ℕ → Ends Scalar) where
       record {
         least = l.0;
         way = t.1 ++ t.0;
-        closes = Ways.round_append ends own t.1 t.0 l.0 s.start l.0 t.4 t.3;
+        closes = Ways.way_append ends own t.1 t.0 l.0 s.start l.0 t.4 t.3;
         arcs_once = subst AreDistinct (sym (Ways.arcs_append t.1 t.0)) (swap_once (arcs_along t.0) (arcs_along t.1) (subst AreDistinct (ap arcs_along (sym t.2) ∙ Ways.arcs_append t.0 t.1) s.arcs_once));
         nodes_once = subst AreDistinct (sym n) (swap_once (nodes_along t.0) (nodes_along t.1) (subst AreDistinct n' s.nodes_once));
         is_least = λ v i. l.2 v (subst (λ y. IsIn v y) (sym n') (elim (in_append v (nodes_along t.1) (nodes_along t.0) (subst (λ y. IsIn v y) n i)) [
@@ -137,7 +137,7 @@ module _ {Scalar : Type 0} (F : Field Scalar) (ends : ℕ → Ends Scalar) where
             back',
             record {
               cycle = record {
-                closes = back_round own (x ∷ y ∷ w) [] k k k r refl;
+                closes = way_back own (x ∷ y ∷ w) [] k k k r refl;
                 has_arc = subst HasArc (sym f.2) (record {});
                 arcs_once = subst AreDistinct (sym (back_arcs k (x ∷ y ∷ w) [])) (onto_once (arcs_along (x ∷ y ∷ w)) [] a (record {}) (λ z i j. j));
                 nodes_once = subst AreDistinct (sym (back_nodes k (x ∷ y ∷ w) [])) (onto_once (sources k (x ∷ y ∷ w)) [] src_once (record {}) (λ z i j. j));
@@ -150,7 +150,7 @@ module _ {Scalar : Type 0} (F : Field Scalar) (ends : ℕ → Ends Scalar) where
             },
           )
 
-  -- a piece has an arc with one end, or a cycle
+  -- a quasi-tree has an arc with one end, or a cycle
   pub has_extra : (ns own : List ℕ) → IsQuasiTree F ns (map ends own) → ((a : ℕ) → IsIn a own → Simple.IsSound F ends (ends a))
       → ((e : Ends Scalar) × IsIn e (map ends own) × HasOneEnd e) ⊎ ((k : ℕ) × (w : List (ℕ × ℕ)) × IsLeastFirst ends own k w)
   has_extra ns own p sound = elim p.extra [

@@ -30,7 +30,7 @@ module _ {Scalar : Type 0} where
   other_end e u x y a b = elim (joins_same e u x u y a b) [ inl r ↦ sym r.1 | inr r ↦ sym r.0 ∙ sym r.1 ]
 
 module _ {Scalar : Type 0} (ends : ℕ → Ends Scalar) where
-  -- the nodes at an arc of a round
+  -- the nodes at an arc of a way
   pub at_arc : (own : List ℕ) (w : List (ℕ × ℕ)) (u v a p q : ℕ) → IsWay ends own u w v → IsIn a (arcs_along w) → Joins (ends a) p q → IsIn p (u ∷ nodes_along w)
   at_arc own [] u v a p q r i k = absurd i
   at_arc own (x ∷ w) u v a p q r (inl e) k = elim (joins_same (ends x.0) u x.1 p q r.1 (subst (λ t. Joins (ends t) p q) e k)) [ inl s ↦ inl s.0 | inr s ↦ inr (inl s.0) ]
@@ -40,7 +40,7 @@ module _ {Scalar : Type 0} (ends : ℕ → Ends Scalar) where
   last_node own [] u v x r = inl (sym r.2)
   last_node own (y ∷ w) u v x r = inr (last_node own w x.1 v y r.2)
 
-  -- an arc at the end of a round whose nodes are apart is its last one
+  -- an arc at the end of a way that comes to no node twice is its last one
   pub is_last : (own : List ℕ) (t : List (ℕ × ℕ)) (y k : ℕ) → AreDistinct (y ∷ nodes_along t) → IsWay ends own y t k → (b q d : ℕ) → IsIn b (arcs_along t) → Joins (ends b) k q → b ≡ last_arc d t
   is_last own [] y k a r b q d i j = absurd i
   is_last own (x ∷ []) y k a r b q d i j = elim i [ inl e ↦ e | inr z ↦ absurd z ]
@@ -52,11 +52,11 @@ module _ {Scalar : Type 0} (ends : ℕ → Ends Scalar) where
         | inr s ↦ a.1.0 (subst (λ s'. IsIn s' (nodes_along (z ∷ t))) s.0 n)
       ])
 
-  pub round_arcs : (own : List ℕ) (w : List (ℕ × ℕ)) (u v : ℕ) → IsWay ends own u w v → (a : ℕ) → IsIn a (arcs_along w) → IsIn a own
-  round_arcs own [] u v r a i = absurd i
-  round_arcs own (x ∷ w) u v r a (inl e) = subst (λ t. IsIn t own) (sym e) r.0
-  round_arcs own (x ∷ w) u v r a (inr i) = round_arcs own w x.1 v r.2 a i
+  pub way_arcs : (own : List ℕ) (w : List (ℕ × ℕ)) (u v : ℕ) → IsWay ends own u w v → (a : ℕ) → IsIn a (arcs_along w) → IsIn a own
+  way_arcs own [] u v r a i = absurd i
+  way_arcs own (x ∷ w) u v r a (inl e) = subst (λ t. IsIn t own) (sym e) r.0
+  way_arcs own (x ∷ w) u v r a (inr i) = way_arcs own w x.1 v r.2 a i
 
-  pub round_append : (own : List ℕ) (v w : List (ℕ × ℕ)) (u x z : ℕ) → IsWay ends own u v x → IsWay ends own x w z → IsWay ends own u (v ++ w) z
-  round_append own [] w u x z r s = subst (λ t. IsWay ends own t w z) (sym r) s
-  round_append own (y ∷ v) w u x z r s = (r.0, r.1, round_append own v w y.1 x z r.2 s)
+  pub way_append : (own : List ℕ) (v w : List (ℕ × ℕ)) (u x z : ℕ) → IsWay ends own u v x → IsWay ends own x w z → IsWay ends own u (v ++ w) z
+  way_append own [] w u x z r s = subst (λ t. IsWay ends own t w z) (sym r) s
+  way_append own (y ∷ v) w u x z r s = (r.0, r.1, way_append own v w y.1 x z r.2 s)

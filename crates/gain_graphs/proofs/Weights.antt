@@ -19,7 +19,7 @@ module _ {Scalar : Type 0} (F : Field Scalar) where
     pub own : pull F a weight ≡ one
     pub other : (b : Ends Scalar) → IsIn b others → pull F b weight ≡ zero
 
-  -- as many arcs as nodes, and only the weights 0: each arc has its node weights
+  -- where there are as many arcs as nodes, each arc has its node weights
   pub weights : (ns : List ℕ) (before : List (Ends Scalar)) (a : Ends Scalar) (after : List (Ends Scalar)) → AreDistinct ns
       → ((b : Ends Scalar) → IsIn b (before ++ a ∷ after) → LiesIn F ns b)
       → length (before ++ a ∷ after) ≡ length ns → Rigid.IsRigid F ns (before ++ a ∷ after) → Weights ns a (before ++ after)
@@ -154,12 +154,12 @@ module _ {Scalar : Type 0} (F : Field Scalar) (ends : ℕ → Ends Scalar) where
   infixl 70 ◌⊗◌
   open F use {one, ◌⊕◌, ◌⊗◌, negated, plus_negated}
 
-  -- where each basic arc of a piece has the same reduced cost by `p` and by `q`, they are the same on it
+  -- potentials with the same pull on each arc of a quasi-tree are the same on its nodes
   pub same_potentials : (ns own : List ℕ) → IsQuasiTree F ns (map ends own) → (p q : ℕ → Scalar)
       → ((a : ℕ) → IsIn a own → pull F (ends a) p ≡ pull F (ends a) q) → (v : ℕ) → IsIn v ns → p v ≡ q v
-  same_potentials ns own shape p q same v i =
+  same_potentials ns own tree p q same v i =
       Algebra.same_of F (p v) (q v) (ap (λ t. p v ⊕ t) (sym (Algebra.negated_times F one (q v) ∙ ap negated (Algebra.one_times F (q v))))
-      ∙ Rigid.quasi_tree_rigid F ns (map ends own) shape (λ u. p u ⊕ negated one ⊗ q u)
+      ∙ Rigid.quasi_tree_rigid F ns (map ends own) tree (λ u. p u ⊕ negated one ⊗ q u)
       (λ e k. let r = in_map_of ends e own k in
       Rigid.pull_plus F e p (λ u. negated one ⊗ q u) ∙ ap (λ t. pull F e p ⊕ t) (Rigid.pull_times F e (negated one) q ∙ Algebra.negated_times F one (pull F e q) ∙ ap negated (Algebra.one_times F (pull F e q)))
       ∙ ap (λ t. t ⊕ negated (pull F e q)) (ap (λ t. pull F t p) r.2 ∙ same r.0 r.1 ∙ ap (λ t. pull F t q) (sym r.2)) ∙ plus_negated (pull F e q)) v i)

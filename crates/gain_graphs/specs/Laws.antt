@@ -70,19 +70,19 @@ module _ {Scalar : Type 0} (field : Field Scalar) where
   -- any two of its cycles are over the same arcs
   abbrev pub CycleIsUnique : Type 0
   CycleIsUnique = (ends : ℕ → Ends Scalar) (nodes arcs : List ℕ) → IsQuasiTree field nodes (map ends arcs)
-      → (start : ℕ) (way : List (ℕ × ℕ)) → IsCycle ends arcs start way → (other : ℕ) (round : List (ℕ × ℕ)) → IsCycle ends arcs other round
-      → (a : ℕ) → IsIn a (arcs_along way) ↔ IsIn a (arcs_along round)
+      → (start : ℕ) (way : List (ℕ × ℕ)) → IsCycle ends arcs start way → (begin : ℕ) (other : List (ℕ × ℕ)) → IsCycle ends arcs begin other
+      → (a : ℕ) → IsIn a (arcs_along way) ↔ IsIn a (arcs_along other)
 
   -- where there is one, it can be walked from its least node along the lower of its two arcs there
   abbrev pub LeastFirstExists : Type 0
   LeastFirstExists = (ends : ℕ → Ends Scalar) (nodes arcs : List ℕ) → IsQuasiTree field nodes (map ends arcs) → ((a : ℕ) → IsIn a arcs → IsNoLoop (ends a))
-      → (start : ℕ) (way : List (ℕ × ℕ)) → IsCycle ends arcs start way → (least : ℕ) × (round : List (ℕ × ℕ)) × IsLeastFirst ends arcs least round
+      → (start : ℕ) (way : List (ℕ × ℕ)) → IsCycle ends arcs start way → (least : ℕ) × (other : List (ℕ × ℕ)) × IsLeastFirst ends arcs least other
 
   -- and in no other way
   abbrev pub LeastFirstIsUnique : Type 0
   LeastFirstIsUnique = (ends : ℕ → Ends Scalar) (nodes arcs : List ℕ) → IsQuasiTree field nodes (map ends arcs)
-      → (start : ℕ) (way : List (ℕ × ℕ)) → IsLeastFirst ends arcs start way → (other : ℕ) (round : List (ℕ × ℕ)) → IsLeastFirst ends arcs other round
-      → (start ≡ other) × (way ≡ round)
+      → (start : ℕ) (way : List (ℕ × ℕ)) → IsLeastFirst ends arcs start way → (begin : ℕ) (other : List (ℕ × ℕ)) → IsLeastFirst ends arcs begin other
+      → (start ≡ begin) × (way ≡ other)
 
   -- its cycle is not breakeven, from whatever node and in whichever direction it is walked
   abbrev pub CycleIsNotBreakeven : Type 0

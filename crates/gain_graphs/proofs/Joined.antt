@@ -1,4 +1,4 @@
--- Nodes that links join, with as many arcs, on which only the weights 0 have the pull 0, are a quasi-tree.
+-- Nodes that links join, with as many arcs, on which only the weights 0 have the pull 0 on each, are a quasi-tree.
 use Rattle.std.proofs.Common.{◌≡◌, ◌≢◌, ◌⊎◌, inl, inr, sym, ap, refl, ◌∙◌, ℕ, List, [], ◌∷◌, ◌++◌, length}
 use Rattle.gain_graphs.specs.Field.{Field}
 use Rattle.gain_graphs.specs.Arcs.{IsIn, AreDistinct, Ends, Link, Drain, Feed, Step, Along, Against, IsWalk, AreJoined, product, pull}
@@ -23,7 +23,7 @@ module _ {Scalar : Type 0} (F : Field Scalar) where
   product_not_zero ns arcs lies (Along i j g ∷ w) u v k = Algebra.times_not_zero F g (product F w) (lies (Link i j g) k.1).2 (product_not_zero ns arcs lies w j v k.2)
   product_not_zero ns arcs lies (Against i j g ∷ w) u v k = Algebra.times_not_zero F (inverse g) (product F w) (Algebra.inverse_not_zero F g (lies (Link i j g) k.1).2) (product_not_zero ns arcs lies w i v k.2)
 
-  -- where the sum at a link is not 0, the link and the walks to `s` and back close a walk that is not breakeven
+  -- where the pull on a link is not 0, the link and the walks to `s` and back close a walk that is not breakeven
   find_extra : (ns : List ℕ) (arcs : List (Ends Scalar)) (s : ℕ) → IsIn s ns → ((a : Ends Scalar) → IsIn a arcs → LiesIn F ns a)
       → ((u v : ℕ) → IsIn u ns → IsIn v ns → (w : List (Step Scalar)) × IsWalk arcs u w v) → Rigid.IsRigid F ns arcs → HasExtra F ns arcs
   find_extra ns arcs s i lies joined r = answer (search_arcs arcs (λ a k. k))
