@@ -1,11 +1,11 @@
 -- The laws, from the lemmas.
-use Rattle.std.proofs.Common.{◌≡◌, inl, inr, sym, ap, refl, ◌∙◌, subst, ℕ, List, [], ◌∷◌, ◌++◌, length, map, arith}
+use Rattle.std.proofs.Common.{append_assoc, ◌≡◌, inl, inr, sym, ap, refl, ◌∙◌, subst, ℕ, List, [], ◌∷◌, ◌++◌, length, map, arith}
 use Rattle.gain_graphs.specs.Field.{Field}
-use Rattle.gain_graphs.specs.Arcs.{IsIn, Ends, Link, Drain, Feed, HasOneEnd, Touches, IsWalk, AreJoined, product, coefficient, balance, pull}
+use Rattle.gain_graphs.specs.Arcs.{IsIn, AreDistinct, Ends, Step, Link, Drain, Feed, HasOneEnd, Touches, IsWalk, AreJoined, product, coefficient, balance, pull}
 use Rattle.gain_graphs.specs.QuasiTrees.{LiesIn, IsQuasiTree}
 use Rattle.gain_graphs.specs.Cycles.{IsNoLoop, IsWay, gain_along}
 use Rattle.gain_graphs.specs.Laws as Laws
-use Rattle.gain_graphs.proofs.Lists.{in_map, in_map_of, length_map, map_append, split_at, in_others}
+use Rattle.gain_graphs.proofs.Lists.{in_map, in_map_of, length_map, map_append, split_at, in_others, in_with, in_back}
 use Rattle.gain_graphs.proofs.Algebra
 use Rattle.gain_graphs.proofs.Sums
 use Rattle.gain_graphs.proofs.Equations
@@ -56,8 +56,40 @@ module _ {Scalar : Type 0} (F : Field Scalar) where
         λ b j h. elim (in_others b s.0 a s.1 (subst (λ t. IsIn b t) (sym s.2) j)) [ inl e ↦ absurd (h e) | inr k ↦ w.other b k ],
       )
 
+  -- a quasi-tree with one of its arcs marked
+  marked : (ends : ℕ → Ends Scalar) (ns arcs : List ℕ) → IsQuasiTree F ns (map ends arcs) → (before : List ℕ) (a : ℕ) (after : List ℕ) → before ++ a ∷ after ≡ arcs
+      → IsQuasiTree F ns (map ends before ++ ends a ∷ map ends after)
+  marked ends ns arcs p before a after e = subst (λ t. IsQuasiTree F ns t) (sym (ap (map ends) e) ∙ map_append ends before (a ∷ after)) p
+
+  -- no arc stands twice in a quasi-tree: the first could be spared
+  stands_once : (ends : ℕ → Ends Scalar) (ns arcs : List ℕ) → IsQuasiTree F ns (map ends arcs) → (before : List ℕ) (a : ℕ) (after : List ℕ) → before ++ a ∷ after ≡ arcs → ¬ IsIn a after
+  stands_once ends ns arcs p before a after e i = Spare.spare F ns (map ends before) (ends a) (map ends after) q.as_many (record {
+    nodes_once = q.nodes_once;
+    ends_inside = λ b k. q.ends_inside b (in_with b (map ends before) (ends a) (map ends after) k);
+    root = q.some_node.0;
+    inside = q.some_node.1;
+    joined = λ v k. let w = q.joined v q.some_node.0 k q.some_node.1 in (w.0, over w.0 v q.some_node.0 w.1);
+    extra = elim q.extra [ inl x ↦ inl (x.0, into x.0 x.1, x.2) | inr x ↦ inr (x.0, x.1, x.2, over x.1 x.0 x.0 x.3, x.4) ];
+  })
+    where
+      q : IsQuasiTree F ns (map ends before ++ ends a ∷ map ends after)
+      q = marked ends ns arcs p before a after e
+
+      into : (b : Ends Scalar) → IsIn b (map ends before ++ ends a ∷ map ends after) → IsIn b (map ends before ++ map ends after)
+      into b k = elim (in_others b (map ends before) (ends a) (map ends after) k) [
+        | inl f ↦ subst (λ t. IsIn t (map ends before ++ map ends after)) (sym f) (in_back (ends a) (map ends before) (map ends after) (in_map ends a after i))
+        | inr l ↦ l
+      ]
+
+      over : (w : List (Step Scalar)) (u v : ℕ) → IsWalk (map ends before ++ ends a ∷ map ends after) u w v → IsWalk (map ends before ++ map ends after) u w v
+      over w u v k = (Walks.within (λ z. Unit {0}) (map ends before ++ ends a ∷ map ends after) (map ends before ++ map ends after) (λ x y g l t. (into (Link x y g) l, tt, tt)) w u v tt k).0
+
+  once_from : (ends : ℕ → Ends Scalar) (ns arcs : List ℕ) → IsQuasiTree F ns (map ends arcs) → (before after : List ℕ) → before ++ after ≡ arcs → AreDistinct after
+  once_from ends ns arcs p before [] e = record {}
+  once_from ends ns arcs p before (a ∷ after) e = (stands_once ends ns arcs p before a after e, once_from ends ns arcs p (before ++ a ∷ []) after (append_assoc before (a ∷ []) after ∙ e))
+
   pub flow_exists : Laws.FlowExists F
-  flow_exists ends ns arcs p once supply = Flows.flow_exists F ends ns arcs p.nodes_once (lies ends ns arcs p) (as_many ends ns arcs p) (rigid ends ns arcs p) once supply
+  flow_exists ends ns arcs p supply = Flows.flow_exists F ends ns arcs p.nodes_once (lies ends ns arcs p) (as_many ends ns arcs p) (rigid ends ns arcs p) (once_from ends ns arcs p [] arcs refl) supply
 
   pub flow_is_unique : Laws.FlowIsUnique F
   flow_is_unique ends ns arcs p supply x y hx hy a i = found x hx ∙ sym (found y hy)
@@ -90,11 +122,6 @@ module _ {Scalar : Type 0} (F : Field Scalar) where
     | inl x ↦ inl (let r = in_map_of ends x.0 arcs x.1 in (r.0, r.1, subst HasOneEnd r.2 x.2))
     | inr x ↦ inr x
   ]
-
-  -- a quasi-tree with one of its arcs marked
-  marked : (ends : ℕ → Ends Scalar) (ns arcs : List ℕ) → IsQuasiTree F ns (map ends arcs) → (before : List ℕ) (a : ℕ) (after : List ℕ) → before ++ a ∷ after ≡ arcs
-      → IsQuasiTree F ns (map ends before ++ ends a ∷ map ends after)
-  marked ends ns arcs p before a after e = subst (λ t. IsQuasiTree F ns t) (sym (ap (map ends) e) ∙ map_append ends before (a ∷ after)) p
 
   pub one_end_is_unique : Laws.OneEndIsUnique F
   one_end_is_unique ends ns arcs p a b i j h k = elim (in_others b s.0 a s.1 (subst (λ t. IsIn b t) (sym s.2) j)) [

@@ -36,7 +36,7 @@ module _ {Scalar : Type 0} (field : Field Scalar) where
 
   -- whatever the nodes supply, some flow on the arcs takes it
   abbrev pub FlowExists : Type 0
-  FlowExists = (ends : ℕ → Ends Scalar) (nodes arcs : List ℕ) → IsQuasiTree field nodes (map ends arcs) → AreDistinct arcs
+  FlowExists = (ends : ℕ → Ends Scalar) (nodes arcs : List ℕ) → IsQuasiTree field nodes (map ends arcs)
       → (supply : ℕ → Scalar) → (flow : ℕ → Scalar) × ((v : ℕ) → IsIn v nodes → balance field ends flow arcs v ≡ supply v)
 
   -- and no other
