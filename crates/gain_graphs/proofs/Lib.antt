@@ -23,3 +23,4 @@ pub mod Pieces
 pub mod Bases
 pub mod Exchange
 pub mod Directions
+pub mod Leaving

@@ -26,7 +26,7 @@ module _ {Scalar : Type 0} (F : Field Scalar) where
   infixl 70 ◌⊗◌
   open F use {zero, one, ◌⊕◌, ◌⊗◌, negated, plus_negated}
 
-  lies : (ends : ℕ → Ends Scalar) (ns arcs : List ℕ) → IsQuasiTree F ns (map ends arcs) → (a : ℕ) → IsIn a arcs → LiesIn F ns (ends a)
+  pub lies : (ends : ℕ → Ends Scalar) (ns arcs : List ℕ) → IsQuasiTree F ns (map ends arcs) → (a : ℕ) → IsIn a arcs → LiesIn F ns (ends a)
   lies ends ns arcs p a i = p.ends_inside (ends a) (in_map ends a arcs i)
 
   as_many : (ends : ℕ → Ends Scalar) (ns arcs : List ℕ) → IsQuasiTree F ns (map ends arcs) → length arcs ≡ length ns
@@ -57,7 +57,7 @@ module _ {Scalar : Type 0} (F : Field Scalar) where
       )
 
   -- a quasi-tree with one of its arcs marked
-  marked : (ends : ℕ → Ends Scalar) (ns arcs : List ℕ) → IsQuasiTree F ns (map ends arcs) → (before : List ℕ) (a : ℕ) (after : List ℕ) → before ++ a ∷ after ≡ arcs
+  pub marked : (ends : ℕ → Ends Scalar) (ns arcs : List ℕ) → IsQuasiTree F ns (map ends arcs) → (before : List ℕ) (a : ℕ) (after : List ℕ) → before ++ a ∷ after ≡ arcs
       → IsQuasiTree F ns (map ends before ++ ends a ∷ map ends after)
   marked ends ns arcs p before a after e = subst (λ t. IsQuasiTree F ns t) (sym (ap (map ends) e) ∙ map_append ends before (a ∷ after)) p
 
@@ -84,7 +84,7 @@ module _ {Scalar : Type 0} (F : Field Scalar) where
       over : (w : List (Step Scalar)) (u v : ℕ) → IsWalk (map ends before ++ ends a ∷ map ends after) u w v → IsWalk (map ends before ++ map ends after) u w v
       over w u v k = (Walks.within (λ z. Unit {0}) (map ends before ++ ends a ∷ map ends after) (map ends before ++ map ends after) (λ x y g l t. (into (Link x y g) l, tt, tt)) w u v tt k).0
 
-  once_from : (ends : ℕ → Ends Scalar) (ns arcs : List ℕ) → IsQuasiTree F ns (map ends arcs) → (before after : List ℕ) → before ++ after ≡ arcs → AreDistinct after
+  pub once_from : (ends : ℕ → Ends Scalar) (ns arcs : List ℕ) → IsQuasiTree F ns (map ends arcs) → (before after : List ℕ) → before ++ after ≡ arcs → AreDistinct after
   once_from ends ns arcs p before [] e = record {}
   once_from ends ns arcs p before (a ∷ after) e = (stands_once ends ns arcs p before a after e, once_from ends ns arcs p (before ++ a ∷ []) after (append_assoc before (a ∷ []) after ∙ e))
 

@@ -1,7 +1,7 @@
 -- The laws: of potentials, node weights and flows on a quasi-tree, of its one-ended arc or its cycle, and of the pieces of a forest.
 use Rattle.std.specs.Prelude.{◌≡◌, ◌≢◌, ◌⊎◌, ◌↔◌, ◌<◌, ℕ, List, [], ◌∷◌, map}
 use Rattle.gain_graphs.specs.Field.{Field, total}
-use Rattle.gain_graphs.specs.Arcs.{IsIn, AreDistinct, Ends, Link, Drain, HasOneEnd, Touches, coefficient, balance, pull, reduced_cost}
+use Rattle.gain_graphs.specs.Arcs.{IsIn, AreDistinct, Ends, Link, Drain, HasOneEnd, Touches, AreJoined, coefficient, balance, pull, reduced_cost}
 use Rattle.gain_graphs.specs.QuasiTrees.{LiesIn, IsQuasiTree}
 use Rattle.gain_graphs.specs.Forests.{IsValid, IsPiece, IsForest}
 use Rattle.gain_graphs.specs.Bases.{IsBasis, IsDirection, IsExchanged}
@@ -88,6 +88,12 @@ module _ {Scalar : Type 0} (field : Field Scalar) where
   abbrev pub CycleIsNotBreakeven : Type 0
   CycleIsNotBreakeven = (ends : ℕ → Ends Scalar) (nodes arcs : List ℕ) → IsQuasiTree field nodes (map ends arcs) → ((a : ℕ) → IsIn a arcs → IsNoLoop (ends a))
       → (start : ℕ) (way : List (ℕ × ℕ)) → IsCycle ends arcs start way → gain_along field ends start way ≢ one
+
+  -- where an arc leaves a quasi-tree, there are two nodes to one of which each node is still joined: so at most two pieces are left
+  abbrev pub OneOfTwoRoots : Type 0
+  OneOfTwoRoots = (ends : ℕ → Ends Scalar) (nodes arcs : List ℕ) → IsQuasiTree field nodes (map ends arcs) → (leave : ℕ) → IsIn leave arcs
+      → (others : List ℕ) → ((a : ℕ) → IsIn a arcs → a ≢ leave → IsIn a others) → (u : ℕ) × (v : ℕ) × IsIn u nodes × IsIn v nodes
+      × ((x : ℕ) → IsIn x nodes → AreJoined (map ends others) x u ⊎ AreJoined (map ends others) x v)
 
   -- ---- forests
 

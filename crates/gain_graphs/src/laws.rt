@@ -4,7 +4,7 @@
 //! the nodes and the ends of the arcs.
 
 ghost use Rattle.gain_graphs.specs.Field.{Field};
-ghost use Rattle.gain_graphs.specs.Laws.{PullIsSum, PotentialsExist, PotentialsAreUnique, WeightsExist, FlowExists, FlowIsUnique, NoCirculation, ExtraExists, OneEndIsUnique, NotBoth, CycleIsUnique, LeastFirstExists, LeastFirstIsUnique, CycleIsNotBreakeven, PieceExists, PieceIsUnique, PieceIsKept, BasesAreForests, DirectionExists, DirectionIsUnique, ExchangeKeepsBasis, RootedExample, CycleExample, FieldExample};
+ghost use Rattle.gain_graphs.specs.Laws.{PullIsSum, PotentialsExist, PotentialsAreUnique, WeightsExist, FlowExists, FlowIsUnique, NoCirculation, ExtraExists, OneEndIsUnique, NotBoth, CycleIsUnique, LeastFirstExists, LeastFirstIsUnique, CycleIsNotBreakeven, OneOfTwoRoots, PieceExists, PieceIsUnique, PieceIsKept, BasesAreForests, DirectionExists, DirectionIsUnique, ExchangeKeepsBasis, RootedExample, CycleExample, FieldExample};
 
 /// The pull of node weights on an arc, `w(i) - g * w(j)` for a link from i to j, `w(v)` for a drain and `-w(v)` for a feed, is their
 /// sum over the nodes, each times the arc's incidence coefficient there.
@@ -44,6 +44,11 @@ pub fn cycle<Scalar>()
     ensures least_first { (field : Field Scalar) → LeastFirstExists field }
     ensures in_one_way { (field : Field Scalar) → LeastFirstIsUnique field }
     ensures not_breakeven { (field : Field Scalar) → CycleIsNotBreakeven field }
+{}
+
+/// Where an arc leaves a quasi-tree, there are two nodes to one of which each node is still joined by links of the others.
+pub fn leaving<Scalar>()
+    ensures { (field : Field Scalar) → OneOfTwoRoots field }
 {}
 
 /// Each node lies in one piece of the basic arcs, and in no other. Where the basic arcs that touch a piece stay the same, it stays a piece.
