@@ -14,7 +14,7 @@ use Rattle.gain_graphs.proofs.Exchange
 module _ {Scalar : Type 0} (F : Field Scalar) where
   infixl 60 ◌⊕◌
   infixl 70 ◌⊗◌
-  open F use {zero, one, ◌⊕◌, ◌⊗◌, negated, plus_comm, plus_negated}
+  open F use {zero, one, ◌⊕◌, ◌⊗◌, negated, plus_negated}
 
   pub direction_exists : Laws.DirectionExists F
   direction_exists n ends basic valid b enter new amount = (d, Sums.put_same F enter amount r.0, balanced)

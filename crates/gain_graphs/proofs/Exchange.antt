@@ -11,7 +11,7 @@ use Rattle.gain_graphs.proofs.Pieces
 module _ {Scalar : Type 0} (F : Field Scalar) (n : ℕ) (ends : ℕ → Ends Scalar) where
   infixl 60 ◌⊕◌
   infixl 70 ◌⊗◌
-  open F use {zero, one, ◌⊕◌, ◌⊗◌, negated, plus_assoc, plus_comm, plus_zero, plus_negated, times_assoc, times_comm, decide}
+  open F use {zero, one, ◌⊕◌, ◌⊗◌, negated, plus_zero, plus_negated, times_assoc, times_comm}
 
   -- a sum over a list with one entry whose term is 0
   total_others : (f : ℕ → Scalar) (before : List ℕ) (a : ℕ) (after : List ℕ) → f a ≡ zero → total F f (before ++ a ∷ after) ≡ total F f (before ++ after)
