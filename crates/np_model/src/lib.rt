@@ -4,11 +4,14 @@
 
 mod arc;
 mod fits;
+mod full;
 mod gate;
 pub mod laws;
 mod lists;
 mod log;
 mod network;
+mod phase;
+mod piece;
 mod plan;
 mod rows;
 mod scheme;
@@ -16,9 +19,11 @@ mod valid;
 
 pub use arc::{Ends, NetArc, Upper};
 pub use gate::{Gate, OpenGate, Spot};
-pub use lists::{Bands, Entries, Flows, Fracs, Name, Names, NetArcs};
+pub use lists::{Bands, EndsList, Entries, Flows, Fracs, Marks, Name, Names, NetArcs, Nums, Steps};
 pub use log::{Entry, Log, Mark};
-pub use network::Net;
+pub use network::{FullNet, Net, StartBasis};
+pub use phase::Phase;
+pub use piece::{Direction, Hands, Piece, Prepared};
 pub use plan::{Parts, Plan, Verdict};
 pub use rows::{CheckRow, Overflow, Place, Row};
 pub use scheme::{Band, Flow, FlowKind, Scheme};

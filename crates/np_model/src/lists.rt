@@ -2,8 +2,8 @@
 
 ghost use Rattle.std.specs.Prelude.{◌≡◌};
 
-use crate::arc::NetArc;
-use crate::log::Entry;
+use crate::arc::{Ends, NetArc};
+use crate::log::{Entry, Mark};
 use crate::scheme::{Band, Flow};
 use np_frac::Frac;
 use std::marker::Model;
@@ -196,6 +196,101 @@ impl Model for Entries {
 impl Entries {
     /// The pivots.
     pub fn as_slice(&self) -> &[Entry]
+        ensures { result.now ≡ self.now }
+    {
+        self.items.as_slice()
+    }
+}
+
+/// The ends of arcs in order.
+#[derive(Debug, Drop)]
+pub struct EndsList {
+    pub items: Vec<Ends>,
+}
+
+impl Model for EndsList {
+    ghost use Rattle.std.specs.Prelude.{List};
+    ghost use Rattle.np_model.specs.declared.arc.Ends.{Ends};
+
+    ghost Value = { List Ends };
+
+    ghost view = { λ list. list.items.items };
+}
+
+impl EndsList {
+    /// The ends.
+    pub fn as_slice(&self) -> &[Ends]
+        ensures { result.now ≡ self.now }
+    {
+        self.items.as_slice()
+    }
+}
+
+/// The marks of arcs in order.
+#[derive(Debug, Drop)]
+pub struct Marks {
+    pub items: Vec<Mark>,
+}
+
+impl Model for Marks {
+    ghost use Rattle.std.specs.Prelude.{List};
+    ghost use Rattle.np_model.specs.declared.log.Mark.{Mark};
+
+    ghost Value = { List Mark };
+
+    ghost view = { λ list. list.items.items };
+}
+
+impl Marks {
+    /// The marks.
+    pub fn as_slice(&self) -> &[Mark]
+        ensures { result.now ≡ self.now }
+    {
+        self.items.as_slice()
+    }
+}
+
+/// Numbers of arcs or nodes, in order.
+#[derive(Debug, Drop)]
+pub struct Nums {
+    pub items: Vec<u32>,
+}
+
+impl Model for Nums {
+    ghost use Rattle.std.specs.Prelude.{List, ℕ};
+
+    ghost Value = { List ℕ };
+
+    ghost view = { λ list. list.items.items };
+}
+
+impl Nums {
+    /// The numbers.
+    pub fn as_slice(&self) -> &[u32]
+        ensures { result.now ≡ self.now }
+    {
+        self.items.as_slice()
+    }
+}
+
+/// Arcs by number, in order, each with an amount.
+#[derive(Debug, Drop)]
+pub struct Steps {
+    pub items: Vec<(u32, Frac)>,
+}
+
+impl Model for Steps {
+    ghost use Rattle.std.specs.Prelude.{List, ℕ};
+    ghost use Rattle.np_frac.specs.Ratio.{Ratio};
+
+    ghost Value = { List (ℕ × Ratio) };
+
+    ghost view = { λ list. list.items.items };
+}
+
+impl Steps {
+    /// The arcs with their amounts.
+    pub fn as_slice(&self) -> &[(u32, Frac)]
         ensures { result.now ≡ self.now }
     {
         self.items.as_slice()

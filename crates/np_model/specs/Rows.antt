@@ -1,0 +1,5 @@
+-- The rows of arithmetic: their operations in order, and which of them overflows.
+pub mod Arcs
+pub mod Extra
+pub mod Potentials
+pub mod Directions
