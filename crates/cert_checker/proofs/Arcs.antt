@@ -3,6 +3,7 @@ use Rattle.std.specs.Prelude.{◌≡◌, ◌≢◌, ℕ, ◌+◌, ◌-◌, ◌*�
 use Rattle.std.specs.List.{All, cons_option, flat_map, filter_map, range_with_len, enumerate_from}
 use Rattle.std.proofs.Common.{refl, sym, ap, subst, ◌∙◌, arith, get_or, take, add-one, eq-eqb, mul-le-mul_left}
 use Rattle.np_frac.specs.Ratio.{Ratio, zero_ratio}
+use Rattle.np_frac.proofs.Folds.{one_more}
 use Rattle.std.proofs.lemmas.List.{length-map, map-append, get_or-map, take_all}
 use Rattle.std.proofs.lemmas.List.Elements.{filter_map-append}
 use Rattle.std.proofs.lemmas.List.FromFn.{get_or-enumerate_from, length-enumerate_from}
@@ -18,7 +19,6 @@ use Rattle.np_model.proofs.Staged.{staged_each}
 use Rattle.cert_checker.specs.Steps.Arcs.{as_stage}
 use Rattle.np_model.specs.Network.Arcs.{AreNodes}
 use Rattle.cert_checker.specs.declared.staged.StagedArc.{StagedArc}
-use Rattle.cert_checker.proofs.First.{one_more}
 
 -- ---- one more flow in a period
 

@@ -12,6 +12,8 @@ use Rattle.np_frac.specs.Ratio.{Ratio, zero_ratio}
 use Rattle.np_frac.specs.Exact.{plus_of, minus_of, times_of, ◌▷◌}
 use Rattle.np_frac.specs.declared.frac.Past.{Past}
 use Rattle.np_frac.specs.Order.{ratio_eq}
+use Rattle.np_frac.proofs.Folds.{fold_more}
+use Rattle.np_frac.proofs.Running.{Running, two_go_on}
 use Rattle.np_model.specs.declared.arc.Ends.{Ends}
 use Rattle.np_model.specs.declared.arc.Ends.TheVariants.{Link}
 use Rattle.np_model.specs.declared.rows.CheckRow.{CheckRow}
@@ -20,15 +22,7 @@ use Rattle.np_model.specs.Scheme.Segments.{Stage}
 use Rattle.cert_checker.specs.Steps.Parts.{sum_clause}
 use Rattle.cert_checker.specs.Steps.Arcs.{as_stage}
 use Rattle.cert_checker.specs.declared.staged.StagedArc.{StagedArc}
-use Rattle.cert_checker.proofs.Pairs.{bind_same, bind_ok, fold_more}
 use Rattle.cert_checker.specs.Walk.{add_flow, outflow_of, with_stage_ends, node_clause, first_refusal, tested, refused_if, reject_node}
-
-abbrev pub Running : Type 0
-Running = Result Ratio Past
-
--- an element that is there, whatever stands for one that is not
-pub element_is : {A : Type 0} (xs : List A) (i : ℕ) (r d : A) → i < length xs → r ≡ get_or xs i r → get_or xs i d ≡ r
-element_is xs i r d h e = grind (arith, common_steps, e)
 
 at_tail : (v from to : ℕ) (gain x y : Ratio) → v ≡ from → add_flow v (Link from to gain) x y ≡ plus_of y x
 at_tail v from to gain x y e = grind (arith, nat_tests)
@@ -45,25 +39,9 @@ pub link_step : (xs : List Running) (from to v : ℕ) (gain x : Ratio) (r s a b 
     → s ≡ get_or (set xs from a) to s → b ≡ s ▷ (λ sum. times_of gain x ▷ λ gained. minus_of sum gained)
     → v < length xs → get_or (set (set xs from a) to b) v d ≡ get_or xs v d ▷ add_flow v (Link from to gain) x
 link_step xs from to v gain x r s a b d at_from at_to differ r_is a_is s_is b_is below =
-    elim (cases_eq v from) [
-      | inl e ↦
-          let elsewhere : v ≢ to = λ f. differ (sym e ∙ f) in
-          let read : get_or xs v d ≡ r = rw e (element_is xs from r d at_from r_is) in
-          let written : get_or (set (set xs from a) to b) v d ≡ a = grind (arith, common_steps) in
-          written ∙ a_is ∙ sym (rw read (bind_same r (add_flow v (Link from to gain) x) (λ sum. plus_of sum x) (λ y. at_tail v from to gain x y e)))
-      | inr n ↦ elim (cases_eq v to) [
-        | inl e ↦
-            let long : to < length (set xs from a) = grind (arith, common_steps) in
-            let before : get_or (set xs from a) v d ≡ get_or xs v d = grind (arith, common_steps) in
-            let read : get_or xs v d ≡ s = sym before ∙ rw e (element_is (set xs from a) to s d long s_is) in
-            let written : get_or (set (set xs from a) to b) v d ≡ b = grind (arith, common_steps) in
-            written ∙ b_is
-            ∙ sym (rw read (bind_same s (add_flow v (Link from to gain) x) (λ sum. times_of gain x ▷ λ gained. minus_of sum gained) (λ y. at_head v from to gain x y n e)))
-        | inr m ↦
-            let kept : get_or (set (set xs from a) to b) v d ≡ get_or xs v d = grind (arith, common_steps) in
-            kept ∙ sym (bind_ok (get_or xs v d) (add_flow v (Link from to gain) x) (λ y. apart v from to gain x y n m))
-      ]
-    ]
+    two_go_on xs from to v (λ sum. plus_of sum x) (λ sum. times_of gain x ▷ λ gained. minus_of sum gained) (add_flow v (Link from to gain) x) r s a b d
+    at_from at_to differ r_is a_is s_is b_is (λ e y. at_tail v from to gain x y e) (λ n e y. at_head v from to gain x y n e)
+    (λ n m y. apart v from to gain x y n m) below
 
 -- ---- the sums beside the supplies
 

@@ -10,6 +10,7 @@ use Rattle.np_model.specs.declared.arc.NetArc.{NetArc}
 use Rattle.np_model.proofs.Pull.{reduced_by_ends, reduced_exactly}
 use Rattle.np_frac.proofs.RatioLaws.{one-*ᵣ, zero-*ᵣ, negated-*ᵣ, +ᵣ-zero, zero-+ᵣ, *ᵣ-zero, +ᵣ_assoc}
 use Rattle.np_frac.proofs.Sums.{sum, total_is, total_zip_map}
+use Rattle.np_frac.proofs.Folds.{fold_exact}
 use Rattle.np_model.specs.declared.arc.Ends.{Ends}
 use Rattle.np_model.specs.declared.arc.Ends.TheVariants.{Link, Drain, Feed}
 use Rattle.np_model.specs.declared.arc.Upper.{Upper}
@@ -44,20 +45,6 @@ step_exact : (v : ℕ) (ends : Ends) (x r s : Ratio) → add_flow v ends x r ≡
 step_exact v (Link from to gain) x r s e = link_exact (v == from) (v == to) gain x r s e
 step_exact v (Drain node) x r s e = drain_exact (v == node) x r s e
 step_exact v (Feed node) x r s e = feed_exact (v == node) x r s e
-
--- a fold of steps that may overflow, whose steps are exact
-module _ {A : Type 0} (step : A → Ratio → Result Ratio Past) (term : A → Ratio) (exact : (a : A) (r s : Ratio) → step a r ≡ Ok s → s ≡ r +ᵣ term a) where
-  past_stays : (p : Past) (xs : List A) → fold (λ running a. running ▷ step a) (Err p) xs ≡ Err p
-  past_stays p [] = refl
-  past_stays p (a ∷ xs) = past_stays p xs
-
-  pub fold_exact : (r s : Ratio) (xs : List A) → fold (λ running a. running ▷ step a) (Ok r) xs ≡ Ok s → s ≡ fold (λ acc a. acc +ᵣ term a) r xs
-  fold_exact r s [] e = cc e
-  fold_exact r s (a ∷ xs) e =
-      elim (step a r) as (λ res. step a r ≡ res → fold (λ running b. running ▷ step b) res xs ≡ Ok s → s ≡ fold (λ acc b. acc +ᵣ term b) (r +ᵣ term a) xs) [
-        | Ok q ↦ λ is rest. fold_exact q s xs rest ∙ ap (λ z. fold (λ acc b. acc +ᵣ term b) z xs) (exact a r q is)
-        | Err p ↦ λ is rest. absurd (cc (past_stays p xs, rest))
-      ] refl e
 
 pub outflow_exact : (pairs : List (Ends × Ratio)) (v : ℕ) (s : Ratio) → outflow_of pairs v ≡ Ok s → s ≡ outflow pairs v
 outflow_exact pairs v s e =

@@ -3,13 +3,10 @@ use Rattle.std.specs.Prelude.{◌≡◌, ℕ, ◌+◌, ◌<◌, ◌≤◌, Optio
 use Rattle.std.proofs.Common.{refl, sym, ap, subst, ◌∙◌, arith, get_or, take, add-one}
 use Rattle.std.proofs.lemmas.List.{take_all, take-append-drop}
 use Rattle.std.proofs.Math.Seq.{take-suc}
+use Rattle.np_frac.proofs.Folds.{one_more}
 use Rattle.cert_checker.specs.Walk.{or_then, first_refusal, accepted_unless, goes_on_unless, UnlessMemory}
 use Rattle.cert_checker.specs.declared.answer.CheckRefusal.{CheckRefusal}
 use Rattle.cert_checker.specs.declared.answer.CheckRefusal.TheVariants as refusal
-
--- one more element
-pub one_more : {A : Type 0} (xs : List A) (i : ℕ) (y : A) → i < length xs → get_or xs i y ≡ y → take (i + 1) xs ≡ take i xs ++ y ∷ []
-one_more {A} xs i y h e = rw add-one (take-suc xs i y h ∙ ap (λ (z : A). take i xs ++ z ∷ []) e)
 
 or_then_assoc : (a b c : Option CheckRefusal) → or_then (or_then a b) c ≡ or_then a (or_then b c)
 or_then_assoc None b c = refl

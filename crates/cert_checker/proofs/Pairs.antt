@@ -9,52 +9,12 @@ use Rattle.np_frac.specs.Ratio.{Ratio}
 use Rattle.np_frac.specs.declared.frac.Past.{Past}
 use Rattle.np_model.specs.Scheme.Segments.{Stage}
 use Rattle.np_frac.specs.Exact.{◌▷◌}
+use Rattle.np_frac.proofs.Folds.{run, runs_on}
 use Rattle.cert_checker.specs.Walk.{first_refusal, goes_on_unless}
 use Rattle.cert_checker.specs.Steps.Arcs.{as_stage}
 use Rattle.cert_checker.specs.declared.staged.StagedArc.{StagedArc}
 use Rattle.cert_checker.specs.declared.answer.CheckRefusal.{CheckRefusal}
-use Rattle.cert_checker.proofs.First.{one_more, goes_on, stops, finds_none}
-
--- ---- steps that may overflow
-
-pub bind_same : {A B : Type 0} (r : Result A Past) (f g : A → Result B Past) → ((y : A) → f y ≡ g y) → r ▷ f ≡ r ▷ g
-bind_same (Ok y) f g h = h y
-bind_same (Err p) f g h = refl
-
-pub bind_ok : {A : Type 0} (r : Result A Past) (f : A → Result A Past) → ((y : A) → f y ≡ Ok y) → r ▷ f ≡ r
-bind_ok (Ok y) f h = h y
-bind_ok (Err p) f h = refl
-
-pub bind_twice : {A B C : Type 0} (r : Result A Past) (f : A → Result B Past) (k : B → Result C Past) → (r ▷ f) ▷ k ≡ r ▷ (λ y. f y ▷ k)
-bind_twice (Ok y) f k = refl
-bind_twice (Err p) f k = refl
-
--- ---- a fold whose steps may overflow
-
-pub fold_more : {A B : Type 0} (step : B → A → B) (start : B) (xs : List A) (i : ℕ) (y : A) → i < length xs → get_or xs i y ≡ y → fold step start (take (i + 1) xs) ≡ step (fold step start (take i xs)) y
-fold_more step start xs i y h e = ap (fold step start) (one_more xs i y h e) ∙ fold-append step start (take i xs) (y ∷ [])
-
-module _ {A : Type 0} (step : A → Ratio → Result Ratio Past) (start : Result Ratio Past) where
-  abbrev pub run : List A → Result Ratio Past
-  run xs = fold (λ running a. running ▷ step a) start xs
-
-  overflow_stays : (p : Past) (xs : List A) → fold (λ running a. running ▷ step a) (Err p) xs ≡ Err p
-  overflow_stays p [] = refl
-  overflow_stays p (a ∷ xs) = overflow_stays p xs
-
-  pub runs_on : (xs : List A) (i : ℕ) (y : A) (old : Ratio) (res : Result Ratio Past) → i < length xs → get_or xs i y ≡ y → Ok old ≡ run (take i xs) → res ≡ step y old → res ≡ run (take (i + 1) xs)
-  runs_on xs i y old res h e so_far here =
-      here ∙ ap (λ (r : Result Ratio Past). r ▷ step y) so_far ∙ sym (fold_more (λ running a. running ▷ step a) start xs i y h e)
-
-  pub run_stops : (xs : List A) (i : ℕ) (p : Past) → Err p ≡ run (take i xs) → Err p ≡ run xs
-  run_stops xs i p e =
-      sym (ap run (sym (take-append-drop i xs))
-      ∙ fold-append (λ running a. running ▷ step a) start (take i xs) (drop i xs)
-      ∙ ap (λ (r : Result Ratio Past). fold (λ running a. running ▷ step a) r (drop i xs)) (sym e)
-      ∙ overflow_stays p (drop i xs))
-
-  pub run_ends : (xs : List A) (i : ℕ) (old : Ratio) → length xs ≤ i → Ok old ≡ run (take i xs) → Ok old ≡ run xs
-  run_ends xs i old h so_far = so_far ∙ ap run (take_all i xs h)
+use Rattle.cert_checker.proofs.First.{goes_on, stops, finds_none}
 
 abbrev pub pairs_of : List StagedArc → List Ratio → List (Stage × Ratio)
 pairs_of arcs amounts = zip (map as_stage arcs) amounts

@@ -8,6 +8,7 @@ use Rattle.std.proofs.Math.Seq.{drop-cons}
 use Rattle.np_frac.specs.Ratio.{Ratio, is_below}
 use Rattle.np_frac.specs.Exact.{plus_of, minus_of, times_of, ◌▷◌}
 use Rattle.np_frac.specs.declared.frac.Past.{Past}
+use Rattle.np_frac.proofs.Folds.{bind_same, bind_twice}
 use Rattle.np_model.specs.declared.arc.Upper.{Upper}
 use Rattle.np_model.specs.declared.arc.Upper.TheVariants.{Finite, Infinite}
 use Rattle.np_model.specs.declared.scheme.Band.{Band}
@@ -17,7 +18,6 @@ use Rattle.cert_checker.specs.Walk.{or_then, first_refusal, goes_on_unless, end_
 use Rattle.cert_checker.specs.Steps.Parts.{end_beyond, segment_beyond, add_segment}
 use Rattle.cert_checker.specs.declared.answer.CheckRefusal.{CheckRefusal}
 use Rattle.cert_checker.proofs.Exact.{band_exact}
-use Rattle.cert_checker.proofs.Pairs.{bind_same, bind_twice}
 
 -- ---- ends
 

@@ -6,6 +6,8 @@ pub mod Field
 pub mod Fractions
 pub mod SumParts
 pub mod Exactness
+pub mod Folds
+pub mod Running
 pub mod Amounts
 pub mod Texts
 pub mod ReadsBack

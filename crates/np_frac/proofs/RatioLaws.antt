@@ -188,3 +188,9 @@ minus_link = by3 (λ c a b. c -ᵣ (a +ᵣ negated b) ≡ (c -ᵣ a) +ᵣ b) (λ
 
 pub minus_negated : (c a : Ratio) → c -ᵣ negated a ≡ c +ᵣ a
 minus_negated = by2 (λ c a. c -ᵣ negated a ≡ c +ᵣ a) (λ x y. simp operations (same _ _ (omega arith)))
+
+pub minus_sum : (a b c : Ratio) → (a -ᵣ b) -ᵣ c ≡ a -ᵣ (b +ᵣ c)
+minus_sum = by3 (λ a b c. (a -ᵣ b) -ᵣ c ≡ a -ᵣ (b +ᵣ c)) (λ x y z. simp operations (same _ _ (omega arith)))
+
+pub minus-zero : (a : Ratio) → a -ᵣ zero_ratio ≡ a
+minus-zero = by1 (λ a. a -ᵣ zero_ratio ≡ a) (λ x. simp (operations, nothing_is) (same _ _ (omega arith)))

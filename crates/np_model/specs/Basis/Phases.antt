@@ -7,6 +7,7 @@ use Rattle.np_model.specs.declared.arc.Upper.TheVariants.{Finite, Infinite}
 use Rattle.np_model.specs.declared.arc.NetArc.{NetArc}
 use Rattle.np_model.specs.declared.phase.Phase.{Phase}
 use Rattle.np_model.specs.declared.phase.Phase.TheVariants.{One, Two}
+use Rattle.np_model.specs.declared.network.Net.{Net}
 use Rattle.np_model.specs.declared.network.FullNet.{FullNet}
 use Rattle.np_model.specs.Network.Flows.{Network}
 
@@ -28,9 +29,13 @@ phase_arcs phase arcs artificial = map (real_arc phase) arcs ++ map (artificial_
 abbrev pub with_artificial : Phase → Network → List Ends → Network
 with_artificial phase net artificial = record { supply = net.supply; arcs = phase_arcs phase net.arcs artificial }
 
+-- the network of a plain network's lists
+abbrev pub network_of : Net → Network
+network_of net = record { supply = net.supply; arcs = net.arcs }
+
 -- a full network in a phase
 abbrev pub phase_net : Phase → FullNet → Network
-phase_net phase full = with_artificial phase (record { supply = full.net.supply; arcs = full.net.arcs }) full.artificial
+phase_net phase full = with_artificial phase (network_of full.net) full.artificial
 
 abbrev pub real_arcs : FullNet → ℕ
 real_arcs full = length full.net.arcs

@@ -1,6 +1,7 @@
 -- Rows that go over arcs in ascending number: the residual of a node (A1), how far a direction can be followed (A5), and the new flows (A6).
 -- (This project's own.)
 use Rattle.std.specs.Prelude.{ℕ, ◌==◌, if◌then◌else◌, List, [], ◌∷◌, Option, Some, None, Result, Ok}
+use Rattle.std.specs.List.{fold}
 use Rattle.np_frac.specs.Ratio.{Ratio, zero_ratio, negated, is_below}
 use Rattle.np_frac.specs.Exact.{plus_of, minus_of, times_of, over_of, ◌▷◌}
 use Rattle.np_frac.specs.declared.frac.Past.{Past}
@@ -21,8 +22,7 @@ less_amount (Feed at) amount v running = if v == at then plus_of running amount 
 
 -- the residual of a node, from its supply and the arcs in order, each at its lower bound
 abbrev pub residual_of : List NetArc → ℕ → Ratio → Result Ratio Past
-residual_of [] v running = Ok running
-residual_of (a ∷ arcs) v running = less_amount a.ends a.lower v running ▷ residual_of arcs v
+residual_of arcs v supply = fold (λ running a. running ▷ less_amount a.ends a.lower v) (Ok supply) arcs
 
 -- ---- A5 and A6
 

@@ -1,9 +1,10 @@
 use Rattle.std.proofs.Common.{◌+◌, ◌∙◌, sym, arith, Ok}
 use Rattle.std.proofs.lemmas.Result.{err_from_is_err_and}
 use Rattle.np_frac.specs.Ratio.{zero_ratio}
+use Rattle.np_frac.proofs.Folds.{run_stops, run_ends}
 use Rattle.cert_checker.specs.Walk.{add_cost}
 use Rattle.cert_checker.specs.Steps.Parts.{EndsFit}
-use Rattle.cert_checker.proofs.Pairs.{pairs_of, length-pairs, pair_runs, run_stops, run_ends, stage_here}
+use Rattle.cert_checker.proofs.Pairs.{pairs_of, length-pairs, pair_runs, stage_here}
 use Rattle.cert_checker.proofs.cost.cost_of.Goals as goal
 
 pub add_cost-requires : goal.add_cost-requires

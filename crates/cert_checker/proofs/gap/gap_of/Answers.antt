@@ -2,10 +2,11 @@ use Rattle.std.proofs.Common.{◌+◌, ◌∙◌, sym, arith, Ok, length, map}
 use Rattle.std.proofs.lemmas.Result.{err_from_is_err_and}
 use Rattle.std.specs.List.{enumerate_from}
 use Rattle.np_frac.specs.Ratio.{zero_ratio}
+use Rattle.np_frac.proofs.Folds.{run, run_stops, run_ends}
 use Rattle.np_model.specs.Network.Arcs.{AreNodes}
 use Rattle.cert_checker.specs.Walk.{add_supply, add_least}
 use Rattle.cert_checker.specs.Steps.Arcs.{as_stage}
-use Rattle.cert_checker.proofs.Pairs.{arc_here, arc_runs, length-stages, run, run_stops, run_ends}
+use Rattle.cert_checker.proofs.Pairs.{arc_here, arc_runs, length-stages}
 use Rattle.cert_checker.proofs.gap.gap_of.Goals as goal
 
 pub add_least-requires : goal.add_least-requires

@@ -3,9 +3,9 @@ use Rattle.std.proofs.lemmas.Result.{err_from_is_err_and}
 use Rattle.std.specs.List.{enumerate_from}
 use Rattle.std.proofs.lemmas.List.FromFn.{length-enumerate_from}
 use Rattle.np_frac.specs.Ratio.{zero_ratio}
+use Rattle.np_frac.proofs.Folds.{runs_on, run_stops, run_ends}
 use Rattle.cert_checker.specs.Walk.{add_supply}
 use Rattle.cert_checker.proofs.Balances.{numbered_at}
-use Rattle.cert_checker.proofs.Pairs.{runs_on, run_stops, run_ends}
 use Rattle.cert_checker.proofs.gap.supply_worth.Goals as goal
 
 pub loop-node-preserved : goal.loop-node-preserved

@@ -1,8 +1,9 @@
 use Rattle.std.proofs.Common.{◌+◌, ◌∙◌, sym, arith, Ok}
 use Rattle.std.proofs.lemmas.Result.{err_from_is_err_and}
 use Rattle.np_frac.specs.Ratio.{zero_ratio}
+use Rattle.np_frac.proofs.Folds.{run_stops, run_ends}
 use Rattle.cert_checker.specs.Walk.{add_ray_cost}
-use Rattle.cert_checker.proofs.Pairs.{pairs_of, length-pairs, pair_runs, run_stops, run_ends}
+use Rattle.cert_checker.proofs.Pairs.{pairs_of, length-pairs, pair_runs}
 use Rattle.cert_checker.proofs.ray.ray_cost_of.Goals as goal
 
 pub loop-i-preserved : goal.loop-i-preserved

@@ -1,0 +1,1 @@
+//! Starts of small networks, with values worked out by hand.
