@@ -1,15 +1,17 @@
 -- The state that stage one starts from: each arc at its lower bound, and what is left of each node's supply on an artificial arc.
 -- (The start by artificial arcs is that of Ahuja, Magnanti and Orlin, Network Flows, chapter 15.)
-use Rattle.std.specs.Prelude.{ℕ, ◌<◌, List, ◌++◌, length, map, if◌then◌else◌}
+use Rattle.std.specs.Prelude.{ℕ, ◌+◌, ◌<◌, ◌==◌, ◌||◌, Bool, if◌then◌else◌, List, [], ◌∷◌, ◌++◌, length, map, filter}
 use Rattle.std.specs.List.{range_with_len}
 use Rattle.np_frac.specs.Ratio.{Ratio, zero_ratio, one_ratio, negated, ◌-ᵣ◌, is_below}
 use Rattle.np_frac.specs.Fits.{Fits}
 use Rattle.np_model.specs.declared.arc.Ends.{Ends}
-use Rattle.np_model.specs.declared.arc.Ends.TheVariants.{Drain, Feed}
+use Rattle.np_model.specs.declared.arc.Ends.TheVariants.{Link, Drain, Feed}
 use Rattle.np_model.specs.declared.log.Mark.TheVariants.{Lower, Basic}
 use Rattle.np_model.specs.declared.phase.Phase.{Phase}
 use Rattle.np_model.specs.Network.Flows.{Network, at, balance}
+use Rattle.np_model.specs.Basis.Graphs.{ends_at}
 use Rattle.np_model.specs.Basis.Phases.{with_artificial}
+use Rattle.np_model.specs.Basis.Pieces.{PieceLists}
 use Rattle.np_model.specs.Basis.States.{State}
 
 -- what is left of the supply of a node where each arc is at its lower bound
@@ -52,3 +54,19 @@ start_net phase net = with_artificial phase net (artificial_ends net)
 -- the residual of each node fits a fraction
 abbrev pub ResidualsFit : Network → Type 0
 ResidualsFit net = (v : ℕ) → v < length net.supply → Fits (residual net v)
+
+-- ---- its pieces
+
+-- the node is an end of the arc
+abbrev pub touches : Ends → ℕ → Bool
+touches (Link from to gain) v = (v == from) || (v == to)
+touches (Drain at) v = v == at
+touches (Feed at) v = v == at
+
+-- the piece of a node: alone, with its artificial arc in the basis and each arc that touches it at its lower bound
+abbrev pub start_piece : Network → ℕ → PieceLists
+start_piece net v = record {
+  nodes = (v, start_potential net v) ∷ [];
+  basics = (length net.arcs + v, artificial_end net v, artificial_flow net v) ∷ [];
+  marks = map (λ a. (a, Lower)) (filter (λ a. touches (ends_at net.arcs a) v) (range_with_len 0 (length net.arcs)));
+}

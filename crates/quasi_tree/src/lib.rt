@@ -1,0 +1,10 @@
+//! Pieces of an augmented forest as three ascending lists: nodes with potentials, basic arcs with ends and flows, and marks of the other
+//! arcs that touch them.
+#![tactic(auto)]
+
+mod lists;
+mod place;
+mod quasi;
+
+pub use lists::{FlowList, Lists, MarkList, NodeList};
+pub use quasi::Quasi;
