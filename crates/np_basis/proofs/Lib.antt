@@ -1,3 +1,6 @@
 pub mod Trees
 pub mod Extras
 pub mod Divisors
+pub mod Fulls
+pub mod Ascending
+pub mod Basics
