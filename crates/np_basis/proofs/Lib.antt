@@ -4,3 +4,4 @@ pub mod Divisors
 pub mod Fulls
 pub mod Ascending
 pub mod Basics
+pub mod Starting
