@@ -1,11 +1,16 @@
 -- The numbers of all arcs in order, and the basic ones among them.
 use Rattle.std.specs.Prelude.{◌≡◌, ◌≢◌, ◌⊎◌, ◌↔◌, ℕ, zero, suc, ◌+◌, ◌<◌, ◌≤◌, cond, Bool, true, false, List, [], ◌∷◌, filter, length}
-use Rattle.std.specs.List.{range_with_len}
-use Rattle.std.proofs.Common.{refl, sym, ap, subst, ◌∙◌, inl, inr, arith}
+use Rattle.std.specs.List.{range_with_len, zip}
+use Rattle.std.proofs.Common.{refl, sym, ap, subst, ◌∙◌, inl, inr, arith, get_or}
+use Rattle.std.proofs.lemmas.List.{get_or_default}
+use Rattle.std.proofs.lemmas.Slice.Zip.{length-zip, get_or-zip}
 use Rattle.gain_graphs.specs.Arcs.{IsIn, AreDistinct}
+use Rattle.np_frac.specs.Ratio.{Ratio, zero_ratio}
 use Rattle.np_model.specs.declared.arc.NetArc.{NetArc}
 use Rattle.np_model.specs.declared.log.Mark.{Mark}
 use Rattle.np_model.specs.declared.log.Mark.TheVariants.{Lower, Upper, Basic}
+use Rattle.np_model.specs.Network.Flows.{at}
+use Rattle.np_model.specs.Basis.Graphs.{no_arc, arc_at}
 use Rattle.np_model.specs.Basis.States.{is_basic, basics}
 use Rattle.np_basis.proofs.Ascending.{Ascends, ascends_once}
 
@@ -67,3 +72,8 @@ filter_once p (x ∷ xs) d = go (p x) (filter_once p xs d.1)
 
 pub basics_once : (arcs : List NetArc) (mark : ℕ → Mark) → AreDistinct (basics arcs mark)
 basics_once arcs mark = filter_once (λ a. is_basic (mark a)) (range_with_len 0 (length arcs)) (ascends_once (range_with_len 0 (length arcs)) (range_ascends 0 (length arcs)))
+
+-- an arc beside its amount
+pub zipped : (arcs : List NetArc) (x : List Ratio) → length x ≡ length arcs → (a : ℕ) → a < length arcs → (z : NetArc × Ratio) → get_or (zip arcs x) a z ≡ (arc_at arcs a, at x a)
+zipped arcs x e a l z =
+    get_or_default (zip arcs x) a z (no_arc, zero_ratio) (omega (arith, length-zip arcs x)) ∙ get_or-zip arcs x a (no_arc, zero_ratio) l (omega arith)

@@ -5,3 +5,5 @@ pub mod Fulls
 pub mod Ascending
 pub mod Basics
 pub mod Starting
+pub mod Cutting
+pub mod Reading

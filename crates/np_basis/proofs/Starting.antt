@@ -40,7 +40,7 @@ use Rattle.np_model.proofs.FullNets as full_nets
 use Rattle.np_model.proofs.Coefficients.{drain_at, drain_off, feed_at, feed_off}
 use Rattle.np_basis.specs.Laws.{HasSoundArcs, StartIsArtificial, StartIsState, StartIsSingles, SingleIsPart}
 use Rattle.np_basis.proofs.Ascending.{ascends_once, one_rises}
-use Rattle.np_basis.proofs.Basics.{range_holds, range_within, range_ascends, basics_hold}
+use Rattle.np_basis.proofs.Basics.{range_holds, range_within, range_ascends, basics_hold, zipped}
 use Rattle.np_basis.proofs.Fulls.{length_full}
 use Rattle.np_basis.proofs.Trees.{total_is}
 
@@ -62,10 +62,6 @@ one_alone : (x : ℕ) (xs : List ℕ) → AreDistinct xs → IsIn x xs → ((v :
 one_alone x [] once i only = absurd i
 one_alone x (y ∷ []) once i only = ap (λ t. t ∷ []) (only y (inl refl))
 one_alone x (y ∷ z ∷ xs) once i only = absurd (once.0 (inl (only y (inl refl) ∙ sym (only z (inr (inl refl))))))
-
-pub zipped : (arcs : List NetArc) (x : List Ratio) → length x ≡ length arcs → (a : ℕ) → a < length arcs → (z : NetArc × Ratio) → get_or (zip arcs x) a z ≡ (arc_at arcs a, at x a)
-zipped arcs x e a l z =
-    get_or_default (zip arcs x) a z (no_arc, zero_ratio) (omega (arith, length-zip arcs x)) ∙ get_or-zip arcs x a (no_arc, zero_ratio) l (omega arith)
 
 -- ---- the rows of a node alone
 

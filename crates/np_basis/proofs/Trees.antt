@@ -66,7 +66,7 @@ total_is f xs = sums.total_is f xs ∙ from_right f xs
 
 -- ---- pieces
 
-same_ends : (ends : ℕ → Ends) (basics : List (ℕ × Ends × Ratio)) → ((b : ℕ × Ends × Ratio) → IsIn b basics → b.1 ≡ ends b.0)
+pub same_ends : (ends : ℕ → Ends) (basics : List (ℕ × Ends × Ratio)) → ((b : ℕ × Ends × Ratio) → IsIn b basics → b.1 ≡ ends b.0)
     → map graph_ends (map (λ (b : ℕ × Ends × Ratio). b.1) basics) ≡ map (graph_of ends) (map (λ (b : ℕ × Ends × Ratio). b.0) basics)
 same_ends ends [] h = refl
 same_ends ends (b ∷ basics) h = ap₂ (λ x xs. x ∷ xs) (ap graph_ends (h b (inl refl))) (same_ends ends basics (λ c i. h c (inr i)))

@@ -68,7 +68,7 @@ PieceIsUnique = (net : Network) (s : Values) (piece other : PieceLists) (v : ℕ
 
 -- pieces of a state that share no node are sound
 abbrev pub PiecesAreSound : Type 0
-PiecesAreSound = (net : Network) (s : State) (pieces : List PieceLists) → HasSoundArcs net → IsState net s
+PiecesAreSound = (net : Network) (s : State) (pieces : List PieceLists) → IsState net s
     → ((p : PieceLists) → IsIn p pieces → IsPieceOf net (values_of s) p) → AreApart pieces → AreSound net pieces
 
 -- ---- potentials and node weights of a piece
