@@ -7,3 +7,4 @@ pub mod Basics
 pub mod Starting
 pub mod Cutting
 pub mod Reading
+pub mod Examples
