@@ -15,11 +15,11 @@ use Rattle.np_model.specs.declared.arc.Ends.{Ends}
 use Rattle.np_model.specs.declared.log.Mark.{Mark}
 use Rattle.np_model.specs.declared.log.Mark.TheVariants as marked
 use Rattle.np_model.specs.Network.Flows.{Network}
-use Rattle.np_model.specs.Basis.Graphs.{ratios, graph_ends, graph_of, no_arc, ends_at}
+use Rattle.np_model.specs.Basis.Graphs.{ratios, graph_of, no_arc, ends_at}
 use Rattle.np_model.specs.Basis.Pieces.{PieceLists, nodes_in, basics_in, marked_in}
 use Rattle.np_model.specs.Basis.States.{Values, basics, IsPart, IsReadOff, IsPieceOf}
 use Rattle.np_basis.specs.Laws.{HasSoundArcs, PieceExists, PieceIsUnique}
-use Rattle.np_basis.proofs.Ascending.{Ascends, rises, ascends_once, Sorted, sort, same_rising}
+use Rattle.np_basis.proofs.Ascending.{rises, ascends_once, Sorted, sort, same_rising}
 use Rattle.np_basis.proofs.Basics.{range_holds, range_within, range_ascends, decide_basic, basics_hold, basics_once}
 use Rattle.np_basis.proofs.Trees.{is_valid}
 

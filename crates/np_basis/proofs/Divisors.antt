@@ -1,6 +1,6 @@
 -- The divisors on the cycle of a piece are not 0, since the cycle is not breakeven.
-use Rattle.std.specs.Prelude.{◌≡◌, ◌≢◌, ℕ, ◌==◌, cond, nat_eq, if◌then◌else◌, Bool, true, false, List, [], ◌∷◌, Result, Ok, Err}
-use Rattle.std.proofs.Common.{refl, sym, ap, ap₂, subst, ◌∙◌, inl, inr, eqb-true, eq-eqb}
+use Rattle.std.specs.Prelude.{◌≡◌, ◌≢◌, ℕ, cond, nat_eq, if◌then◌else◌, Bool, true, false, List, [], ◌∷◌, Result, Ok}
+use Rattle.std.proofs.Common.{refl, sym, ap, ap₂, ◌∙◌, inl, inr, eqb-true, eq-eqb}
 use Rattle.gain_graphs.specs.Arcs as graph
 use Rattle.gain_graphs.specs.Arcs.{IsIn}
 use Rattle.gain_graphs.specs.Cycles.{last_arc, Joins, IsNoLoop, IsWay, gain_from, gain_along}
@@ -11,7 +11,7 @@ use Rattle.np_frac.specs.Ratio.{Ratio, zero_ratio, one_ratio, negated, inverse, 
 use Rattle.np_frac.specs.Exact.{plus_of, minus_of, times_of, over_of, ◌▷◌}
 use Rattle.np_frac.specs.declared.frac.Past.{Past}
 use Rattle.np_frac.proofs.Exactness.{plus_exact, minus_exact, times_exact, over_exact, found_by}
-use Rattle.np_frac.proofs.RatioLaws.{*ᵣ_assoc, *ᵣ_comm, one-*ᵣ, negated-*ᵣ}
+use Rattle.np_frac.proofs.RatioLaws.{*ᵣ_assoc, *ᵣ_comm, one-*ᵣ}
 use Rattle.np_frac.proofs.Field.{*ᵣ-one, *ᵣ-inverse, one-zero}
 use Rattle.np_model.specs.declared.arc.Ends.{Ends}
 use Rattle.np_model.specs.declared.arc.Ends.TheVariants.{Link, Drain, Feed}

@@ -1,10 +1,9 @@
 -- The extra arc of a piece: that there is one, and no other.
-use Rattle.std.specs.Prelude.{◌≡◌, ◌⊎◌, ℕ, ◌<◌, List, length}
-use Rattle.std.proofs.Common.{refl, sym, ap, ap₂, subst, ◌∙◌, inl, inr}
+use Rattle.std.specs.Prelude.{◌≡◌, ℕ, List, length}
+use Rattle.std.proofs.Common.{refl, sym, ap₂, subst, ◌∙◌, inl, inr}
 use Rattle.gain_graphs.specs.Arcs.{IsIn, HasOneEnd}
-use Rattle.gain_graphs.specs.Cycles.{IsNoLoop, IsLeastFirst}
+use Rattle.gain_graphs.specs.Cycles.{IsNoLoop}
 use Rattle.gain_graphs.proofs.Theorems as theorems
-use Rattle.np_frac.specs.Ratio.{Ratio}
 use Rattle.np_model.specs.declared.arc.Ends.{Ends}
 use Rattle.np_model.specs.declared.arc.Ends.TheVariants.{Link, Drain, Feed}
 use Rattle.np_model.specs.Network.Arcs.{AreNodes}

@@ -1,6 +1,5 @@
 -- A full network is valid in each phase; and the price of an arc is its reduced cost.
 use Rattle.std.specs.Prelude.{◌≡◌, ◌⊎◌, ℕ, ◌+◌, ◌-◌, ◌<◌, ◌≤◌, List, map, length, slice_index_or}
-use Rattle.std.specs.List.{All}
 use Rattle.std.proofs.Common.{sym, ap₂, subst, ◌∙◌, inl, inr, arith}
 use Rattle.std.proofs.lemmas.List.{length-append, get_or_default, length-map}
 use Rattle.np_frac.specs.Ratio.{zero_ratio}

@@ -1,5 +1,5 @@
 -- What pieces say of their nodes and arcs is what the state says; and each piece of a state is sound.
-use Rattle.std.specs.Prelude.{◌≡◌, ◌≢◌, ◌⊎◌, ℕ, ◌<◌, nat_eq, if◌then◌else◌, Bool, true, false, List, [], ◌∷◌, ◌++◌, map, length, Result}
+use Rattle.std.specs.Prelude.{◌≡◌, ◌≢◌, ℕ, ◌<◌, nat_eq, if◌then◌else◌, Bool, true, false, List, [], ◌∷◌, ◌++◌, map, length}
 use Rattle.std.specs.List.{flat_map}
 use Rattle.std.specs.Result.{IsOk}
 use Rattle.std.proofs.Common.{refl, sym, ap, ap₂, subst, ◌∙◌, inl, inr, arith, eqb-true}
@@ -23,9 +23,9 @@ use Rattle.np_model.specs.declared.log.Mark.TheVariants as marked
 use Rattle.np_model.specs.Network.Arcs.{IsWithin, IsFull, bound_of, tail_of, head_of, reduced_cost}
 use Rattle.np_model.specs.Network.Flows.{Network, at}
 use Rattle.np_model.specs.Basis.Graphs.{ratios, graph_ends, graph_of, no_arc, arc_at, ends_at, cost_at}
-use Rattle.np_model.specs.Basis.Pieces.{PieceLists, nodes_in, basics_in, marked_in, ends_in, beside, marks_of, flows_of, nodes_of, AreApart}
+use Rattle.np_model.specs.Basis.Pieces.{PieceLists, nodes_in, basics_in, marked_in, beside, marks_of, flows_of, nodes_of}
 use Rattle.np_model.specs.Basis.States.{State, Values, values_of, price, StandsAt, IsPieceOf, IsState}
-use Rattle.np_model.specs.Basis.Sound.{bound_at, values_in, IsInNet, IsSound, AreSound}
+use Rattle.np_model.specs.Basis.Sound.{bound_at, values_in, IsSound}
 use Rattle.np_model.specs.Rows.Extra.{Extra, OneEnd, Round, IsExtra, IsOnRound, Hangs, Leads}
 use Rattle.np_model.specs.Rows.Potentials.{across, PotentialsFit, FitsRows}
 use Rattle.np_basis.specs.Laws.{PiecesAreSound}

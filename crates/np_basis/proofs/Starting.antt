@@ -1,11 +1,10 @@
 -- The start is a state of stage one, and its pieces are the nodes alone.
-use Rattle.std.specs.Prelude.{◌≡◌, ◌≢◌, ◌⊎◌, ℕ, zero, suc, ◌+◌, ◌-◌, ◌^◌, ◌<◌, ◌≤◌, Bool, true, false, if◌then◌else◌, List, [], ◌∷◌, ◌++◌, map, length, slice_index_or}
-use Rattle.std.specs.List.{All, range_with_len, zip}
-use Rattle.std.specs.Result.{IsOk}
+use Rattle.std.specs.Prelude.{◌≡◌, ◌≢◌, ◌⊎◌, ℕ, ◌+◌, ◌-◌, ◌^◌, ◌<◌, ◌≤◌, Bool, true, false, if◌then◌else◌, List, [], ◌∷◌, ◌++◌, map, length}
+use Rattle.std.specs.List.{zip}
 use Rattle.std.proofs.Common.{refl, sym, ap, ap₂, subst, ◌∙◌, inl, inr, arith, get_or}
-use Rattle.std.proofs.lemmas.List.{get_or_append_left, get_or-append_right, get_or-map, length-append, length-map, get_or_default}
-use Rattle.std.proofs.lemmas.List.FromFn.{get_or-map-range_with_len, length-range_with_len, length-map-range_with_len}
-use Rattle.std.proofs.lemmas.Slice.Zip.{length-zip, get_or-zip}
+use Rattle.std.proofs.lemmas.List.{get_or_append_left, get_or-append_right, get_or-map, length-append, length-map}
+use Rattle.std.proofs.lemmas.List.FromFn.{get_or-map-range_with_len, length-map-range_with_len}
+use Rattle.std.proofs.lemmas.Slice.Zip.{length-zip}
 use Rattle.gain_graphs.specs.Arcs as graph
 use Rattle.gain_graphs.specs.Arcs.{IsIn, AreDistinct, HasOneEnd, Touches, IsWalk, Step, Along, Against}
 use Rattle.gain_graphs.specs.Cycles.{Joins, IsWay}
@@ -22,7 +21,7 @@ use Rattle.np_frac.proofs.RatioLaws.{+ᵣ-zero, zero-*ᵣ, one-*ᵣ, negated-*�
 use Rattle.np_frac.proofs.Field.{+ᵣ-negated}
 use Rattle.np_frac.proofs.Sums as sums
 use Rattle.np_model.specs.declared.arc.Ends.{Ends}
-use Rattle.np_model.specs.declared.arc.Ends.TheVariants.{Link, Drain, Feed}
+use Rattle.np_model.specs.declared.arc.Ends.TheVariants.{Drain, Feed}
 use Rattle.np_model.specs.declared.arc.NetArc.{NetArc}
 use Rattle.np_model.specs.declared.log.Mark.TheVariants as marked
 use Rattle.np_model.specs.declared.phase.Phase.TheVariants.{One}
@@ -30,17 +29,17 @@ use Rattle.np_model.specs.Network.Arcs.{coefficient, IsWithin}
 use Rattle.np_model.specs.Network.Flows.{Network, at, balance}
 use Rattle.np_model.specs.Basis.Artificial.{IsOneEndAt}
 use Rattle.np_model.specs.Basis.Graphs.{ratios, graph_ends, graph_of, no_arc, arc_at, ends_at, cost_at}
-use Rattle.np_model.specs.Basis.Phases.{real_arc, artificial_arc, phase_arcs}
+use Rattle.np_model.specs.Basis.Phases.{real_arc, artificial_arc}
 use Rattle.np_model.specs.Basis.States.{values_of, price, StandsAt, basics, IsPart, IsState}
 use Rattle.np_model.specs.Basis.Starts.{residual, artificial_end, artificial_flow, start_potential, nodes_from_0, artificial_ends, start_state, start_net, ResidualsFit}
-use Rattle.np_model.specs.Rows.Extra.{Extra, OneEnd, Round, IsExtra, Hangs}
-use Rattle.np_model.specs.Rows.Potentials.{PotentialsFit, FitsRows}
+use Rattle.np_model.specs.Rows.Extra.{OneEnd, Round}
+use Rattle.np_model.specs.Rows.Potentials.{PotentialsFit}
 use Rattle.np_model.proofs.Balance.{balance-is}
 use Rattle.np_model.proofs.FullNets as full_nets
 use Rattle.np_model.proofs.Coefficients.{drain_at, drain_off, feed_at, feed_off}
 use Rattle.np_basis.specs.Laws.{HasSoundArcs, StartIsArtificial, StartIsState, StartIsSingles, SingleIsPart}
 use Rattle.np_basis.proofs.Ascending.{ascends_once, one_rises}
-use Rattle.np_basis.proofs.Basics.{range_holds, range_within, range_ascends, basics_hold, zipped}
+use Rattle.np_basis.proofs.Basics.{range_holds, range_ascends, basics_hold, zipped}
 use Rattle.np_basis.proofs.Fulls.{length_full}
 use Rattle.np_basis.proofs.Trees.{total_is}
 

@@ -17,8 +17,7 @@ use Rattle.np_model.specs.declared.arc.Ends.{Ends}
 use Rattle.np_model.specs.declared.arc.Ends.TheVariants.{Link, Drain, Feed}
 use Rattle.np_model.specs.Network.Arcs.{coefficient, tail_of, head_of, AreNodes, IsGaining, reduced_cost}
 use Rattle.np_model.specs.Network.Flows.{Network}
-use Rattle.np_model.specs.Network.Nets.{IsSoundArc}
-use Rattle.np_model.specs.Basis.Graphs.{ratios, graph_ends, graph_of, no_arc, arc_at, ends_at}
+use Rattle.np_model.specs.Basis.Graphs.{ratios, graph_ends, graph_of, no_arc, ends_at}
 use Rattle.np_model.specs.Basis.Pieces.{PieceLists, nodes_in, basics_in}
 use Rattle.np_model.specs.Basis.Sound.{IsInNet}
 use Rattle.np_model.proofs.Coefficients.{coefficient_from, coefficient_to, coefficient_off}

@@ -3,9 +3,12 @@ use Rattle.std.specs.Prelude.{◌≡◌, ◌≢◌, ℕ, ◌+◌, ◌<◌, List,
 use Rattle.std.specs.List.{All}
 use Rattle.gain_graphs.specs.Arcs.{IsIn}
 use Rattle.gain_graphs.specs.Cycles.{IsNoLoop}
-use Rattle.np_frac.specs.Ratio.{Ratio, zero_ratio, one_ratio, ◌*ᵣ◌, total}
+use Rattle.np_frac.specs.Ratio.{Ratio, zero_ratio, one_ratio, ◌*ᵣ◌, ◌<ᵣ◌, total}
 use Rattle.np_frac.specs.Fits.{Fits}
 use Rattle.np_model.specs.declared.arc.Ends.{Ends}
+use Rattle.np_model.specs.declared.arc.Ends.TheVariants.{Link}
+use Rattle.np_model.specs.declared.arc.Upper.TheVariants.{Infinite}
+use Rattle.np_model.specs.declared.arc.NetArc.{NetArc}
 use Rattle.np_model.specs.declared.phase.Phase.{Phase}
 use Rattle.np_model.specs.declared.phase.Phase.TheVariants.{One}
 use Rattle.np_model.specs.Network.Arcs.{coefficient, tail_of, head_of, reduced_cost}
@@ -134,7 +137,7 @@ DirectionsDivisor = (net : Network) (piece : PieceLists) (d : ℕ → Ratio) (k 
     → HasSoundArcs net → IsInNet net piece → IsExtra (ends_at net.arcs) (basics_in piece) (Round k (first ∷ way))
     → directions.divisor (ends_at net.arcs) d k first way ≡ Ok last → last ≢ zero_ratio
 
--- ---- an example
+-- ---- examples
 
 -- a node alone, with this supply
 abbrev pub node_alone : Ratio → Network
@@ -143,3 +146,26 @@ node_alone supply = record { supply = supply ∷ []; arcs = [] }
 -- where the supply fits, it has a state of stage one
 abbrev pub StateExample : Type 0
 StateExample = (supply : Ratio) → Fits supply → IsState (start_net One (node_alone supply)) (start_state (node_alone supply))
+
+-- two nodes with two links between them, one of gain 1 and one of this gain
+abbrev pub link_of : Ratio → NetArc
+link_of gain = record { ends = Link 0 1 gain; lower = zero_ratio; upper = Infinite; cost = zero_ratio }
+
+abbrev pub two_links : Ratio → Network
+two_links gain = record { supply = zero_ratio ∷ zero_ratio ∷ []; arcs = link_of one_ratio ∷ link_of gain ∷ [] }
+
+abbrev pub links_piece : Ratio → PieceLists
+links_piece gain = record {
+  nodes = (0, zero_ratio) ∷ (1, zero_ratio) ∷ [];
+  basics = (0, Link 0 1 one_ratio, zero_ratio) ∷ (1, Link 0 1 gain, zero_ratio) ∷ [];
+  marks = [];
+}
+
+-- where that is another gain above 0, they are a piece in a sound network, and its extra arc is the cycle of both
+pub record HasRound (gain : Ratio) : Type 0 where
+  pub sound : HasSoundArcs (two_links gain)
+  pub in_net : IsInNet (two_links gain) (links_piece gain)
+  pub is_extra : IsExtra (ends_at (two_links gain).arcs) (basics_in (links_piece gain)) (Round 0 ((0, 1) ∷ (1, 0) ∷ []))
+
+abbrev pub RoundExample : Type 0
+RoundExample = (gain : Ratio) → zero_ratio <ᵣ gain → gain ≢ one_ratio → HasRound gain

@@ -1,6 +1,6 @@
 //! The laws of states, of their pieces and of the rows of a piece, as the clauses of functions that do nothing.
 
-ghost use Rattle.np_basis.specs.Laws.{FullIsSound, StartIsArtificial, StartIsState, StartIsSingles, SingleIsPart, PieceExists, PieceIsUnique, PiecesAreSound, PotentialsExist, PotentialsAreUnique, WeightsExist, PriceIsReduced, LinksAreNoLoops, ExtraExists, ExtraIsUnique, PotentialsDivisor, DirectionsDivisor, StateExample};
+ghost use Rattle.np_basis.specs.Laws.{FullIsSound, StartIsArtificial, StartIsState, StartIsSingles, SingleIsPart, PieceExists, PieceIsUnique, PiecesAreSound, PotentialsExist, PotentialsAreUnique, WeightsExist, PriceIsReduced, LinksAreNoLoops, ExtraExists, ExtraIsUnique, PotentialsDivisor, DirectionsDivisor, StateExample, RoundExample};
 
 /// A full network is valid in each phase: with sound real arcs and an artificial arc at each node, all its arcs are sound.
 pub fn full_networks()
@@ -54,7 +54,9 @@ pub fn divisors()
     ensures directions { DirectionsDivisor }
 {}
 
-/// There are states: that of a node alone, with any supply that fits.
+/// There are states, and pieces with a cycle: a node alone has a state of stage one, with any supply that fits; and two nodes with two
+/// links between them, of gain 1 and of another gain above 0, are a piece whose extra arc is the cycle of both.
 pub fn examples()
     ensures state { StateExample }
+    ensures round { RoundExample }
 {}

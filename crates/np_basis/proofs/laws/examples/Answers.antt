@@ -1,5 +1,8 @@
-use Rattle.np_basis.proofs.Examples.{state_example}
+use Rattle.np_basis.proofs.Examples.{state_example, round_example}
 use Rattle.np_basis.proofs.laws.examples.Goals as goal
 
-pub returns : goal.returns
-returns c = record { state = state_example }
+pub returns-clause-state : goal.returns-clause-state
+returns-clause-state c = state_example
+
+pub returns-clause-round : goal.returns-clause-round
+returns-clause-round c = round_example
