@@ -36,9 +36,6 @@ pub ascends_once : (xs : List ℕ) → Ascends xs → AreDistinct xs
 ascends_once [] a = record {}
 ascends_once (x ∷ xs) a = ((λ i. let l : x < x = a.0 x i in absurd (omega arith)), ascends_once xs a.1)
 
-pub rises_once : (xs : List ℕ) → IsStrictlyIncreasing xs → AreDistinct xs
-rises_once xs h = ascends_once xs (ascends xs h)
-
 -- one number alone
 pub one_rises : (x : ℕ) → IsStrictlyIncreasing (x ∷ [])
 one_rises x k l = absurd (omega arith)

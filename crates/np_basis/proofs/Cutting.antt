@@ -25,7 +25,7 @@ use Rattle.np_basis.proofs.Trees.{is_valid}
 
 -- ---- pieces with the same members
 
-pub touches_more : (nodes others : List ℕ) (e : graph.Ends Ratio) → ((v : ℕ) → IsIn v nodes → IsIn v others) → Touches nodes e → Touches others e
+touches_more : (nodes others : List ℕ) (e : graph.Ends Ratio) → ((v : ℕ) → IsIn v nodes → IsIn v others) → Touches nodes e → Touches others e
 touches_more nodes others (graph.Link i j g) h t = elim t [ inl x ↦ inl (h i x) | inr x ↦ inr (h j x) ]
 touches_more nodes others (graph.Drain i) h t = h i t
 touches_more nodes others (graph.Feed i) h t = h i t
@@ -74,9 +74,6 @@ same_lists p q e f g =
 -- ---- the piece of a node
 
 module _ (net : Network) (s : Values) where
-  abbrev graph_at : ℕ → graph.Ends Ratio
-  graph_at = graph_of (ends_at net.arcs)
-
   -- the arcs outside the basis that touch the nodes
   record Around (nodes : List ℕ) : Type 0 where
     list : List ℕ

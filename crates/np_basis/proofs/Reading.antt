@@ -60,12 +60,12 @@ beside_out other (x ∷ xs) v h = other_next other x xs v (nat_eq v x.0) refl (�
 
 -- ---- lists of several pieces, joined
 
-pub in_flat : {A B : Type 0} (f : A → List B) (ps : List A) (p : A) (x : B) → IsIn p ps → IsIn x (f p) → IsIn x (flat_map f ps)
+in_flat : {A B : Type 0} (f : A → List B) (ps : List A) (p : A) (x : B) → IsIn p ps → IsIn x (f p) → IsIn x (flat_map f ps)
 in_flat f [] p x i j = absurd i
 in_flat f (r ∷ ps) p x (inl e) j = in_front x (f r) (flat_map f ps) (subst (λ t. IsIn x (f t)) e j)
 in_flat f (r ∷ ps) p x (inr i) j = in_back x (f r) (flat_map f ps) (in_flat f ps p x i j)
 
-pub in_flat_of : {A B : Type 0} (f : A → List B) (ps : List A) (x : B) → IsIn x (flat_map f ps) → (p : A) × IsIn p ps × IsIn x (f p)
+in_flat_of : {A B : Type 0} (f : A → List B) (ps : List A) (x : B) → IsIn x (flat_map f ps) → (p : A) × IsIn p ps × IsIn x (f p)
 in_flat_of f [] x i = absurd i
 in_flat_of f (r ∷ ps) x i = elim (in_append x (f r) (flat_map f ps) i) [
   | inl j ↦ (r, inl refl, j)
@@ -108,31 +108,16 @@ bound_stands a marked.Basic amount s = record {}
 
 -- ---- pieces of a state agree with it
 
-pub record Agrees (net : Network) (s : Values) (ps : List PieceLists) : Type 0 where
-  pub marks : (a : ℕ) → a < length net.arcs → Touches (nodes_of ps) (graph_of (ends_at net.arcs) a) → (values_in net ps).mark a ≡ s.mark a
-  pub flows : (a : ℕ) → a < length net.arcs → Touches (nodes_of ps) (graph_of (ends_at net.arcs) a) → (values_in net ps).flow a ≡ s.flow a
-  pub potentials : (v : ℕ) → IsIn v (nodes_of ps) → (values_in net ps).potential v ≡ s.potential v
-
-abbrev number_of : ℕ × Ends × Ratio → ℕ
-number_of b = b.0
-
-abbrev as_basic : ℕ × Ends × Ratio → ℕ × Mark
-as_basic b = (b.0, marked.Basic)
-
-abbrev as_flow : ℕ × Ends × Ratio → ℕ × Ratio
-as_flow b = (b.0, b.2)
+record Agrees (net : Network) (s : Values) (ps : List PieceLists) : Type 0 where
+  marks : (a : ℕ) → a < length net.arcs → Touches (nodes_of ps) (graph_of (ends_at net.arcs) a) → (values_in net ps).mark a ≡ s.mark a
+  flows : (a : ℕ) → a < length net.arcs → Touches (nodes_of ps) (graph_of (ends_at net.arcs) a) → (values_in net ps).flow a ≡ s.flow a
+  potentials : (v : ℕ) → IsIn v (nodes_of ps) → (values_in net ps).potential v ≡ s.potential v
 
 map_map : {A B C : Type 0} (f : A → B) (g : B → C) (xs : List A) → map g (map f xs) ≡ map (λ x. g (f x)) xs
 map_map f g [] = refl
 map_map f g (x ∷ xs) = ap (λ t. g (f x) ∷ t) (map_map f g xs)
 
 module _ (net : Network) (s : Values) (stands : (a : ℕ) → a < length net.arcs → StandsAt (arc_at net.arcs a) (s.mark a) (s.flow a)) (ps : List PieceLists) (pieces : (p : PieceLists) → IsIn p ps → IsPieceOf net s p) where
-  abbrev mark_table : List (ℕ × Mark)
-  mark_table = flat_map marks_of ps
-
-  abbrev flow_table : List (ℕ × Ratio)
-  flow_table = flat_map flows_of ps
-
   -- the marks of a piece: those of its basic arcs, and the others
   marked_split : (p : PieceLists) → map (λ (m : ℕ × Mark). m.0) (marks_of p) ≡ map (λ (b : ℕ × Ends × Ratio). b.0) p.basics ++ map (λ (m : ℕ × Mark). m.0) p.marks
   marked_split p = map_append (λ (m : ℕ × Mark). m.0) (map (λ (b : ℕ × Ends × Ratio). (b.0, marked.Basic)) p.basics) p.marks
@@ -196,7 +181,7 @@ module _ (net : Network) (s : Values) (stands : (a : ℕ) → a < length net.arc
       let k = in_flat_of (λ (p : PieceLists). p.nodes) ps f.entry f.is_in in
       f.is ∙ (pieces k.0 k.1).read_off.potentials f.entry k.2 ∙ ap s.potential f.key
 
-  pub agrees : Agrees net s ps
+  agrees : Agrees net s ps
   agrees = record { marks = agree_mark; flows = agree_flow; potentials = agree_potential }
 
 -- ---- prices and rows by the potentials of the nodes alone
@@ -231,7 +216,7 @@ module _ (ends : ℕ → Ends) (cost : ℕ → Ratio) (nodes arcs : List ℕ) (l
   leads_inside (OneEnd b k) a u v extra leads = hangs_inside (OneEnd b k) a u v leads
   leads_inside (Round k way) a u v extra leads = elim leads [ inl h ↦ hangs_inside (Round k way) a u v h | inr r ↦ on_round k way k a u v extra.cycle.closes r ]
 
-  pub rows_same : (p q : ℕ → Ratio) → ((v : ℕ) → IsIn v nodes → p v ≡ q v) → PotentialsFit ends cost arcs p → PotentialsFit ends cost arcs q
+  rows_same : (p q : ℕ → Ratio) → ((v : ℕ) → IsIn v nodes → p v ≡ q v) → PotentialsFit ends cost arcs p → PotentialsFit ends cost arcs q
   rows_same p q same fit x extra =
       let f : FitsRows ends cost arcs x p = fit x extra in
       record { at_root = f.at_root; links = λ a u v leads. subst (λ t. IsOk (across (ends a) (cost a) u t)) (same u (leads_inside x a u v extra leads)) (f.links a u v leads) }

@@ -7,7 +7,7 @@ use Rattle.std.proofs.lemmas.List.FromFn.{get_or-map-range_with_len, length-map-
 use Rattle.std.proofs.lemmas.Slice.Zip.{length-zip}
 use Rattle.gain_graphs.specs.Arcs as graph
 use Rattle.gain_graphs.specs.Arcs.{IsIn, AreDistinct, HasOneEnd, Touches, IsWalk, Step, Along, Against}
-use Rattle.gain_graphs.specs.Cycles.{Joins, IsWay}
+use Rattle.gain_graphs.specs.Cycles.{Joins}
 use Rattle.gain_graphs.specs.Field as field
 use Rattle.gain_graphs.specs.Forests as forest
 use Rattle.gain_graphs.specs.QuasiTrees.{LiesIn, IsQuasiTree}
@@ -69,11 +69,7 @@ none_leads (graph.Link i j g) u v h joins = h
 none_leads (graph.Drain i) u v h joins = joins
 none_leads (graph.Feed i) u v h joins = joins
 
-no_round : (ends : ℕ → graph.Ends Ratio) (a k : ℕ) (way : List (ℕ × ℕ)) → HasOneEnd (ends a) → IsWay ends (a ∷ []) k way k → (¬ way ≡ []) → ⊥
-no_round ends a k [] h w some = some refl
-no_round ends a k (x ∷ way) h w some = elim w.0 [ inl e ↦ none_leads (ends a) k x.1 h (subst (λ t. Joins (ends t) k x.1) e w.1) | inr i ↦ i ]
-
-pub one_end_fits : (ends : ℕ → Ends) (cost : ℕ → Ratio) (a : ℕ) (potential : ℕ → Ratio) → HasOneEnd (graph_of ends a) → PotentialsFit ends cost (a ∷ []) potential
+one_end_fits : (ends : ℕ → Ends) (cost : ℕ → Ratio) (a : ℕ) (potential : ℕ → Ratio) → HasOneEnd (graph_of ends a) → PotentialsFit ends cost (a ∷ []) potential
 one_end_fits ends cost a potential h (OneEnd b v) extra = record {
   at_root = refl;
   links = λ c u w hangs. absurd (elim (subst (IsIn c) hangs.split (in_back c hangs.before (c ∷ hangs.after) (inl refl))) [
@@ -82,7 +78,10 @@ one_end_fits ends cost a potential h (OneEnd b v) extra = record {
   ]);
 }
 one_end_fits ends cost a potential h (Round k []) extra = absurd extra.cycle.has_arc
-one_end_fits ends cost a potential h (Round k (x ∷ way)) extra = absurd (no_round (graph_of ends) a k (x ∷ way) h extra.cycle.closes (λ e. cc))
+one_end_fits ends cost a potential h (Round k (x ∷ way)) extra = absurd (elim extra.cycle.closes.0 [
+  | inl e ↦ none_leads (graph_of ends a) k x.1 h (subst (λ t. Joins (graph_of ends t) k x.1) e extra.cycle.closes.1)
+  | inr i ↦ i
+])
 
 -- ---- artificial arcs
 
@@ -175,9 +174,6 @@ module _ (net : Network) where
   abbrev full : Network
   full = start_net One net
 
-  abbrev mark : ℕ → marked.the_data
-  mark = (values_of (start_state net)).mark
-
   end_at : (v : ℕ) (other : Ends) → v < n → get_or (artificial_ends net) v other ≡ artificial_end net v
   end_at v other l = get_or-map-range_with_len (artificial_end net) 0 n v v other l (omega arith)
 
@@ -233,12 +229,6 @@ module _ (net : Network) where
       cases x y = grind arith
 
   -- ---- balance
-
-  abbrev lowers : List Ratio
-  lowers = map (λ a. a.lower) net.arcs
-
-  abbrev own_flows : List Ratio
-  own_flows = map (artificial_flow net) (nodes_from_0 net)
 
   -- what an amount on an arc takes from the node
   abbrev takes : ℕ → NetArc × Ratio → Ratio
