@@ -16,7 +16,7 @@ use Rattle.np_model.specs.Basis.Graphs.{no_arc, arc_at, ends_at, cost_at}
 use Rattle.np_model.specs.Basis.Phases.{real_arc, artificial_arc, phase_arcs}
 use Rattle.np_model.proofs.FullNets.{real_at, artificial_at}
 use Rattle.np_model.proofs.Pull.{reduced_by_ends}
-use Rattle.np_basis.specs.Laws.{FullIsSound, PriceIsReduced}
+use Rattle.np_basis.specs.Laws.{FullIsSound, FullNetIsSound, PriceIsReduced}
 
 pub length_full : (phase : Phase) (arcs : List NetArc) (artificial : List Ends) → length (phase_arcs phase arcs artificial) ≡ length arcs + length artificial
 length_full phase arcs artificial =
@@ -45,6 +45,9 @@ full_is_sound phase net artificial sound h a other l = subst (IsSoundArc (length
       subst (IsSoundArc (length net.supply)) (sym (artificial_at phase net.arcs artificial a k below))
       (artificial_sound (length net.supply) (a - length net.arcs) phase (slice_index_or artificial (a - length net.arcs) (Drain 0)) node (h.at_nodes (a - length net.arcs) (Drain 0) node)))
 ])
+
+pub full_net_is_sound : FullNetIsSound
+full_net_is_sound phase full = full_is_sound phase (record { supply = full.net.supply; arcs = full.net.arcs }) full.artificial full.net.valid.sound full.valid
 
 pub price_is_reduced : PriceIsReduced
 price_is_reduced net p a sound e below =

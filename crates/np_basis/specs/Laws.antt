@@ -9,6 +9,7 @@ use Rattle.np_model.specs.declared.arc.Ends.{Ends}
 use Rattle.np_model.specs.declared.arc.Ends.TheVariants.{Link}
 use Rattle.np_model.specs.declared.arc.Upper.TheVariants.{Infinite}
 use Rattle.np_model.specs.declared.arc.NetArc.{NetArc}
+use Rattle.np_model.specs.declared.network.FullNet.{FullNet}
 use Rattle.np_model.specs.declared.phase.Phase.{Phase}
 use Rattle.np_model.specs.declared.phase.Phase.TheVariants.{One}
 use Rattle.np_model.specs.Network.Arcs.{coefficient, tail_of, head_of, reduced_cost}
@@ -17,7 +18,7 @@ use Rattle.np_model.specs.Network.Duality.{reduced}
 use Rattle.np_model.specs.Network.Nets.{IsSoundArc}
 use Rattle.np_model.specs.Basis.Artificial.{AreArtificial}
 use Rattle.np_model.specs.Basis.Graphs.{graph_of, arc_at, ends_at, cost_at}
-use Rattle.np_model.specs.Basis.Phases.{with_artificial}
+use Rattle.np_model.specs.Basis.Phases.{with_artificial, phase_net}
 use Rattle.np_model.specs.Basis.Pieces.{PieceLists, nodes_in, basics_in, AreApart}
 use Rattle.np_model.specs.Basis.States.{State, Values, values_of, price, IsPart, IsPieceOf, IsState}
 use Rattle.np_model.specs.Basis.Starts.{artificial_ends, start_state, start_net, ResidualsFit}
@@ -36,6 +37,10 @@ HasSoundArcs net = All (IsSoundArc (length net.supply)) net.arcs
 abbrev pub FullIsSound : Type 0
 FullIsSound = (phase : Phase) (net : Network) (artificial : List Ends) → HasSoundArcs net → AreArtificial (length net.supply) artificial
     → HasSoundArcs (with_artificial phase net artificial)
+
+-- so a full network is by its type
+abbrev pub FullNetIsSound : Type 0
+FullNetIsSound = (phase : Phase) (full : FullNet) → HasSoundArcs (phase_net phase full)
 
 -- the artificial arcs of the start are such
 abbrev pub StartIsArtificial : Type 0

@@ -1,10 +1,12 @@
 //! The laws of states, of their pieces and of the rows of a piece, as the clauses of functions that do nothing.
 
-ghost use Rattle.np_basis.specs.Laws.{FullIsSound, StartIsArtificial, StartIsState, StartIsSingles, SingleIsPart, PieceExists, PieceIsUnique, PiecesAreSound, PotentialsExist, PotentialsAreUnique, WeightsExist, PriceIsReduced, LinksAreNoLoops, ExtraExists, ExtraIsUnique, PotentialsDivisor, DirectionsDivisor, StateExample, RoundExample};
+ghost use Rattle.np_basis.specs.Laws.{FullIsSound, FullNetIsSound, StartIsArtificial, StartIsState, StartIsSingles, SingleIsPart, PieceExists, PieceIsUnique, PiecesAreSound, PotentialsExist, PotentialsAreUnique, WeightsExist, PriceIsReduced, LinksAreNoLoops, ExtraExists, ExtraIsUnique, PotentialsDivisor, DirectionsDivisor, StateExample, RoundExample};
 
-/// A full network is valid in each phase: with sound real arcs and an artificial arc at each node, all its arcs are sound.
+/// A full network is valid in each phase: with sound real arcs and an artificial arc at each node, all its arcs are sound. So they are in
+/// every [`FullNet`](np_model::FullNet), by its type.
 pub fn full_networks()
-    ensures { FullIsSound }
+    ensures sound { FullIsSound }
+    ensures by_type { FullNetIsSound }
 {}
 
 /// Where the residual of each node fits, the start is a state of stage one. Its artificial arcs are one at each node, and its pieces are the
