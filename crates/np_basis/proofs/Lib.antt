@@ -1,0 +1,10 @@
+pub mod Trees
+pub mod Extras
+pub mod Divisors
+pub mod Fulls
+pub mod Ascending
+pub mod Basics
+pub mod Starting
+pub mod Cutting
+pub mod Reading
+pub mod Examples

@@ -1,0 +1,64 @@
+//! The laws of states, of their pieces and of the rows of a piece, as the clauses of functions that do nothing.
+
+ghost use Rattle.np_basis.specs.Laws.{FullIsSound, FullNetIsSound, StartIsArtificial, StartIsState, StartIsSingles, SingleIsPart, PieceExists, PieceIsUnique, PiecesAreSound, PotentialsExist, PotentialsAreUnique, WeightsExist, PriceIsReduced, LinksAreNoLoops, ExtraExists, ExtraIsUnique, PotentialsDivisor, DirectionsDivisor, StateExample, RoundExample};
+
+/// A full network is valid in each phase: with sound real arcs and an artificial arc at each node, all its arcs are sound. So they are in
+/// every [`FullNet`](np_model::FullNet), by its type.
+pub fn full_networks()
+    ensures sound { FullIsSound }
+    ensures by_type { FullNetIsSound }
+{}
+
+/// Where the residual of each node fits, the start is a state of stage one. Its artificial arcs are one at each node, and its pieces are the
+/// nodes alone, each with its artificial arc.
+pub fn start()
+    ensures artificial { StartIsArtificial }
+    ensures is_state { StartIsState }
+    ensures singles { StartIsSingles }
+    ensures parts { SingleIsPart }
+{}
+
+/// Each node lies in exactly one piece of what a state says, and pieces of a state that share no node are sound.
+pub fn pieces()
+    ensures exist { PieceExists }
+    ensures unique { PieceIsUnique }
+    ensures sound { PiecesAreSound }
+{}
+
+/// For any costs a piece has potentials with which each of its basic arcs has the reduced cost 0, and one list of them on its nodes.
+pub fn potentials()
+    ensures exist { PotentialsExist }
+    ensures unique { PotentialsAreUnique }
+{}
+
+/// Each basic arc of a piece has node weights whose sum, each times the arc's incidence coefficient at its node, is 1 on it and 0 on
+/// every other basic arc.
+pub fn weights()
+    ensures { WeightsExist }
+{}
+
+/// The reduced cost of an arc by the potentials at its ends is the one by the sum over all nodes.
+pub fn prices()
+    ensures { PriceIsReduced }
+{}
+
+/// A piece has one extra arc: an arc with one end, or a cycle, from its least node along the lower of its two arcs there; and never both. The
+/// ends of a link are two nodes.
+pub fn extra()
+    ensures no_loops { LinksAreNoLoops }
+    ensures exists { ExtraExists }
+    ensures unique { ExtraIsUnique }
+{}
+
+/// The divisors on the cycle of a piece are not 0: that of its potentials, 1 less the product of the gains, and that of its directions.
+pub fn divisors()
+    ensures potentials { PotentialsDivisor }
+    ensures directions { DirectionsDivisor }
+{}
+
+/// There are states, and pieces with a cycle: a node alone has a state of stage one, with any supply that fits; and two nodes with two
+/// links between them, of gain 1 and of another gain above 0, are a piece whose extra arc is the cycle of both.
+pub fn examples()
+    ensures state { StateExample }
+    ensures round { RoundExample }
+{}
