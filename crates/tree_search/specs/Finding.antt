@@ -11,7 +11,7 @@ use Rattle.tree_search.specs.declared.piece.ExtraArc.{ExtraArc}
 use Rattle.tree_search.specs.declared.piece.ExtraArc.TheVariants as found
 use Rattle.tree_search.specs.declared.search.Search.{Search}
 use Rattle.tree_search.specs.Places.{loose, number_at, ends_at, numbers_in, AreEndsOf, HasOneEnd}
-use Rattle.tree_search.specs.Search.{JoinsAt, fars, step_arcs, IsSearch, IsClosed}
+use Rattle.tree_search.specs.Search.{AreNodesBelow, JoinsAt, fars, step_arcs, IsSearch, IsClosed}
 
 -- ---- what is found
 
@@ -54,6 +54,11 @@ pub record IsFound (nodes : List ℕ) (basics : List (ℕ × Ends × Ratio)) (jo
 abbrev pub starts_of : List Joint → ExtraArc → List ℕ
 starts_of joints (found.OneEnd arc) = (slice_index_or joints arc loose).from ∷ []
 starts_of joints (found.Round cycle) = fars cycle.items
+
+-- a search over n nodes can begin at them
+abbrev pub CanBeginAt : ℕ → List Joint → ExtraArc → Type 0
+CanBeginAt n joints (found.OneEnd arc) = arc < length joints
+CanBeginAt n joints (found.Round cycle) = AreNodesBelow n (fars cycle.items) × AreDistinct (fars cycle.items)
 
 -- ---- how it is found
 

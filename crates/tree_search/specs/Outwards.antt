@@ -11,7 +11,6 @@ use Rattle.tree_search.specs.declared.search.Search.{Search}
 use Rattle.tree_search.specs.Places.{number_at, numbers_in, AreEndsOf, AreJoints, IsTree}
 use Rattle.tree_search.specs.Search.{IsSearch, IsClosed}
 use Rattle.tree_search.specs.Finding.{IsFound, as_extra, starts_of}
-use Rattle.std.specs.Prelude.{length}
 
 -- a step over this arc from the node u to the node v, by numbers
 pub record IsStepOver (nodes : List ℕ) (basics : List (ℕ × Ends × Ratio)) (steps : List Step) (a u v : ℕ) : Type 0 where
@@ -32,7 +31,7 @@ pub record AreOutwards (ends : ℕ → Ends) (nodes : List ℕ) (basics : List (
 
 -- a closed search from the nodes of the extra arc goes outwards
 abbrev pub SearchesGoOutwards : Type 0
-SearchesGoOutwards = (nodes : List ℕ) (basics : List (ℕ × Ends × Ratio)) (joints : List Joint) (extra : ExtraArc) (search : Search)
+SearchesGoOutwards = (nodes : List ℕ) (basics : List (ℕ × Ends × Ratio)) (joints : List Joint) (extra : ExtraArc) (n : ℕ) (search : Search)
     → IsTree nodes basics → AreJoints nodes basics joints → IsFound nodes basics joints extra
-    → IsSearch joints (length nodes) (starts_of joints extra) search → IsClosed joints search.queue.items
+    → IsSearch joints n (starts_of joints extra) search → IsClosed joints search.queue.items
     → (ends : ℕ → Ends) → AreEndsOf ends basics → AreOutwards ends nodes basics (as_extra nodes basics joints extra) search.steps.items

@@ -3,7 +3,7 @@
 ghost use Rattle.std.specs.Prelude.{◌≡◌, ◌<◌, ◌≤◌, ◌^◌, ◌↔◌, ℕ, length, true, IfOk};
 ghost use Rattle.tree_search.specs.Places.{nodes_in, ends_at, HasOneEnd, AreJoints, IsTree};
 ghost use Rattle.tree_search.specs.Search.{AreBelow, IsIncidence};
-ghost use Rattle.tree_search.specs.Finding.{cut_off, IsRest, ClosesRound, IsFound};
+ghost use Rattle.tree_search.specs.Finding.{cut_off, IsRest, ClosesRound, IsFound, CanBeginAt};
 
 use crate::marks::{marks_of, unmarked};
 use crate::piece::{ExtraArc, Joint, Step};
@@ -107,7 +107,8 @@ pub fn find_extra(
     requires tree { IsTree (nodes_in nodes.now) basics.now }
     requires joints { AreJoints (nodes_in nodes.now) basics.now joints.now }
     requires lists { IsIncidence joints.now (length nodes.now) incidence.now }
-    ensures { IfOk result (λ extra. IsFound (nodes_in nodes.now) basics.now joints.now extra) }
+    ensures found { IfOk result (λ extra. IsFound (nodes_in nodes.now) basics.now joints.now extra) }
+    ensures begins { IfOk result (λ extra. CanBeginAt (length nodes.now) joints.now extra) }
 {
     let one = one_ended(basics);
     if one < basics.len() {

@@ -1,9 +1,8 @@
 //! The search off the extra arc of a piece.
 
 ghost use Rattle.std.specs.Prelude.{◌≡◌, ◌<◌, ◌^◌, length, IfOk};
-ghost use Rattle.gain_graphs.specs.Arcs.{AreDistinct};
-ghost use Rattle.tree_search.specs.Search.{AreBelow, AreNodesBelow, IsIncidence, IsSearch, IsClosed, fars};
-ghost use Rattle.tree_search.specs.Finding.{starts_of};
+ghost use Rattle.tree_search.specs.Search.{AreBelow, IsIncidence, IsSearch, IsClosed, fars};
+ghost use Rattle.tree_search.specs.Finding.{starts_of, CanBeginAt};
 
 use crate::piece::{ExtraArc, Joint, Step};
 use crate::search::{Incidence, Search, search_from};
@@ -34,8 +33,7 @@ pub fn search_off(
     requires few { length joints.now < 2 ^ 32 }
     requires few_nodes { nodes < 2 ^ 32 }
     requires lists { IsIncidence joints.now nodes incidence.now }
-    requires inside { AreNodesBelow nodes (starts_of joints.now extra.now) }
-    requires once { AreDistinct (starts_of joints.now extra.now) }
+    requires begins { CanBeginAt nodes joints.now extra.now }
     ensures found { IfOk result (λ search. IsSearch joints.now nodes (starts_of joints.now extra.now) search) }
     ensures closed { IfOk result (λ search. IsClosed joints.now search.queue.items) }
 {
