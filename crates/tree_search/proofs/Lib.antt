@@ -1,0 +1,9 @@
+pub mod Searches
+pub mod Marked
+pub mod Ways
+pub mod Rests
+pub mod Trees
+pub mod Outward
+pub mod Hops
+pub mod Placed
+pub mod Hanging

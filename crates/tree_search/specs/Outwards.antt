@@ -1,0 +1,37 @@
+-- What a search from the nodes of the extra arc finds: all that hangs off it, outwards.
+use Rattle.std.specs.Prelude.{◌≡◌, ◌⊎◌, ℕ, List, slice_index}
+use Rattle.gain_graphs.specs.Arcs.{IsIn}
+use Rattle.np_frac.specs.Ratio.{Ratio}
+use Rattle.np_model.specs.declared.arc.Ends.{Ends}
+use Rattle.np_model.specs.Rows.Extra.{Extra, extra_arcs, extra_nodes, Hangs}
+use Rattle.tree_search.specs.declared.piece.Step.{Step}
+use Rattle.tree_search.specs.declared.piece.Joint.{Joint}
+use Rattle.tree_search.specs.declared.piece.ExtraArc.{ExtraArc}
+use Rattle.tree_search.specs.declared.search.Search.{Search}
+use Rattle.tree_search.specs.Places.{number_at, numbers_in, AreEndsOf, AreJoints, IsTree}
+use Rattle.tree_search.specs.Search.{IsSearch, IsClosed}
+use Rattle.tree_search.specs.Finding.{IsFound, as_extra, starts_of}
+
+-- a step over this arc from the node u to the node v, by numbers
+pub record IsStepOver (nodes : List ℕ) (basics : List (ℕ × Ends × Ratio)) (steps : List Step) (a u v : ℕ) : Type 0 where
+  pub step : Step
+  pub is_in : IsIn step steps
+  pub arc : number_at basics step.arc ≡ a
+  pub near : slice_index nodes step.near ≡ u
+  pub far : slice_index nodes step.far ≡ v
+
+-- the steps are the links that hang off the extra arc of the piece, and lead to each other node once
+pub record AreOutwards (ends : ℕ → Ends) (nodes : List ℕ) (basics : List (ℕ × Ends × Ratio)) (x : Extra) (steps : List Step) : Type 0 where
+  pub hang : (s : Step) → IsIn s steps → Hangs ends (numbers_in basics) x (number_at basics s.arc) (slice_index nodes s.near) (slice_index nodes s.far)
+  pub all : (a u v : ℕ) → Hangs ends (numbers_in basics) x a u v → IsStepOver nodes basics steps a u v
+  pub arcs : (a : ℕ) → IsIn a (numbers_in basics) → IsIn a (extra_arcs x) ⊎ ((u : ℕ) × (v : ℕ) × Hangs ends (numbers_in basics) x a u v)
+  pub reach : (v : ℕ) → IsIn v nodes → IsIn v (extra_nodes x) ⊎ ((a : ℕ) × (u : ℕ) × Hangs ends (numbers_in basics) x a u v)
+  pub apart : (a u v : ℕ) → Hangs ends (numbers_in basics) x a u v → ¬ IsIn v (extra_nodes x)
+  pub once : (s t : Step) → IsIn s steps → IsIn t steps → slice_index nodes s.far ≡ slice_index nodes t.far → s ≡ t
+
+-- a closed search from the nodes of the extra arc goes outwards
+abbrev pub SearchesGoOutwards : Type 0
+SearchesGoOutwards = (nodes : List ℕ) (basics : List (ℕ × Ends × Ratio)) (joints : List Joint) (extra : ExtraArc) (n : ℕ) (search : Search)
+    → IsTree nodes basics → AreJoints nodes basics joints → IsFound nodes basics joints extra
+    → IsSearch joints n (starts_of joints extra) search → IsClosed joints search.queue.items
+    → (ends : ℕ → Ends) → AreEndsOf ends basics → AreOutwards ends nodes basics (as_extra nodes basics joints extra) search.steps.items

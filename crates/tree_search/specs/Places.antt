@@ -1,0 +1,84 @@
+-- A piece by places: an ascending list of nodes, and an ascending list of basic arcs with their ends.
+use Rattle.std.specs.Prelude.{◌≡◌, ◌↔◌, ◌<◌, ◌^◌, ℕ, List, [], ◌∷◌, map, length, slice_index, slice_index_or, ⊤}
+use Rattle.std.specs.List.Sorted.{IsStrictlyIncreasing}
+use Rattle.gain_graphs.specs.Arcs.{IsIn}
+use Rattle.gain_graphs.specs.Cycles.{IsNoLoop}
+use Rattle.gain_graphs.specs.QuasiTrees.{IsQuasiTree}
+use Rattle.np_frac.specs.Ratio.{Ratio, zero_ratio}
+use Rattle.np_model.specs.declared.arc.Ends.{Ends}
+use Rattle.np_model.specs.declared.arc.Ends.TheVariants.{Link, Drain, Feed}
+use Rattle.np_model.specs.Basis.Graphs.{ratios, graph_ends}
+use Rattle.tree_search.specs.declared.piece.Joint.{Joint}
+
+-- nodes by number, each with a potential
+abbrev pub nodes_in : List (ℕ × Ratio) → List ℕ
+nodes_in nodes = map (λ n. n.0) nodes
+
+-- arcs by number, each with its ends and its flow
+abbrev pub numbers_in : List (ℕ × Ends × Ratio) → List ℕ
+numbers_in basics = map (λ b. b.0) basics
+
+abbrev pub ends_in : List (ℕ × Ends × Ratio) → List Ends
+ends_in basics = map (λ b. b.1) basics
+
+-- what stands for an arc, and for its ends by places, where there is none
+abbrev pub blank : ℕ × Ends × Ratio
+blank = (0, Drain 0, zero_ratio)
+
+abbrev pub loose : Joint
+loose = record { from = 0; to = 0 }
+
+abbrev pub number_at : List (ℕ × Ends × Ratio) → ℕ → ℕ
+number_at basics a = (slice_index_or basics a blank).0
+
+abbrev pub ends_at : List (ℕ × Ends × Ratio) → ℕ → Ends
+ends_at basics a = (slice_index_or basics a blank).1
+
+-- these are the ends of the arcs, by their numbers
+abbrev pub AreEndsOf : (ℕ → Ends) → List (ℕ × Ends × Ratio) → Type 0
+AreEndsOf ends basics = (b : ℕ × Ends × Ratio) → IsIn b basics → ends b.0 ≡ b.1
+
+-- ---- places
+
+-- the node stands at this place
+abbrev pub StandsAt : List ℕ → ℕ → ℕ → Type 0
+StandsAt nodes v place = (place < length nodes) × (slice_index nodes place ≡ v)
+
+-- it stands in the list
+abbrev pub Stands : List ℕ → ℕ → Type 0
+Stands nodes v = (place : ℕ) × StandsAt nodes v place
+
+abbrev pub EndsStand : List ℕ → Ends → Type 0
+EndsStand nodes (Link from to gain) = Stands nodes from × Stands nodes to
+EndsStand nodes (Drain at) = Stands nodes at
+EndsStand nodes (Feed at) = Stands nodes at
+
+-- the ends of an arc by their places; an arc with one end has it twice
+abbrev pub IsJoint : List ℕ → Ends → Joint → Type 0
+IsJoint nodes (Link from to gain) j = StandsAt nodes from j.from × StandsAt nodes to j.to
+IsJoint nodes (Drain at) j = StandsAt nodes at j.from × (j.to ≡ j.from)
+IsJoint nodes (Feed at) j = StandsAt nodes at j.from × (j.to ≡ j.from)
+
+-- the ends of each arc by their places
+pub record AreJoints (nodes : List ℕ) (basics : List (ℕ × Ends × Ratio)) (joints : List Joint) : Type 0 where
+  pub long : length joints ≡ length basics
+  pub each : (a : ℕ) → a < length basics → IsJoint nodes (ends_at basics a) (slice_index_or joints a loose)
+
+-- these places are those of the nodes
+abbrev pub ArePlaces : List ℕ → List ℕ → List ℕ → Type 0
+ArePlaces nodes places list = (v : ℕ) → IsIn v list ↔ ((p : ℕ) × IsIn p places × StandsAt nodes v p)
+
+-- ---- pieces
+
+-- a drain or a feed
+abbrev pub HasOneEnd : Ends → Type 0
+HasOneEnd (Link from to gain) = ⊥
+HasOneEnd (Drain at) = ⊤
+HasOneEnd (Feed at) = ⊤
+
+-- a quasi-tree by ascending lists of its nodes and its arcs, none of them a loop
+pub record IsTree (nodes : List ℕ) (basics : List (ℕ × Ends × Ratio)) : Type 0 where
+  pub nodes_ascend : IsStrictlyIncreasing nodes
+  pub basics_ascend : IsStrictlyIncreasing (numbers_in basics)
+  pub quasi_tree : IsQuasiTree ratios nodes (map graph_ends (ends_in basics))
+  pub no_loops : (b : ℕ × Ends × Ratio) → IsIn b basics → IsNoLoop (graph_ends b.1)
