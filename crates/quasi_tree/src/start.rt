@@ -1,0 +1,55 @@
+//! The parts of a piece of the start.
+
+ghost use Rattle.std.specs.Prelude.{◌≡◌, ◌<◌, ◌^◌, ◌++◌, ◌∷◌, [], length, map, filter, if◌then◌else◌, IfOk, OnOk};
+ghost use Rattle.std.specs.List.{range_with_len};
+ghost use Rattle.np_frac.specs.Ratio.{one_ratio, negated};
+ghost use Rattle.np_model.specs.declared.log.Mark.TheVariants as marked;
+ghost use Rattle.np_model.specs.Basis.Graphs.{ends_at};
+ghost use Rattle.np_model.specs.Basis.Starts.{touches};
+ghost use Rattle.quasi_tree.specs.Start.{end_potential};
+
+use np_frac::{Frac, Memory};
+use np_model::{Ends, Mark, NetArc};
+use std::alloc::Global;
+
+/// The potential of a node whose only basic arc is this artificial one.
+pub(crate) fn start_potential(ends: Ends) -> Frac
+    ensures { result ≡ end_potential ends }
+{
+    match ends {
+        Ends::Feed(_) => Frac::whole(-1),
+        _ => Frac::whole(1),
+    }
+}
+
+// Whether the node is an end of the arc.
+fn touches_node(ends: Ends, node: u32) -> bool
+    ensures { result ≡ touches ends node }
+{
+    match ends {
+        Ends::Link { from, to, .. } => node == from || node == to,
+        Ends::Drain(at) | Ends::Feed(at) => node == at,
+    }
+}
+
+// Appends the mark of an arc at its lower bound, where it touches the node.
+fn push_mark(marks: &mut Vec<(u32, Mark)>, ends: Ends, arc: u32, node: u32) -> Result<(), Memory>
+    ensures { OnOk result (marks.new.items ≡ marks.old.items ++ (if touches ends node then (arc, marked.Lower) ∷ [] else [])) }
+{
+    if touches_node(ends, node) {
+        marks.push((arc, Mark::Lower))?;
+    }
+    Ok(())
+}
+
+/// The marks of the arcs that touch a node, each at its lower bound.
+pub(crate) fn marks_at(alloc: Global, arcs: &[NetArc], node: u32) -> Result<Vec<(u32, Mark)>, Memory>
+    requires { length arcs.now < 2 ^ 32 }
+    ensures { IfOk result (λ marks. marks.items ≡ map (λ a. (a, marked.Lower)) (filter (λ a. touches (ends_at arcs.now a) node) (range_with_len 0 (length arcs.now)))) }
+{
+    let mut marks = Vec::new(alloc);
+    for arc in 0..arcs.len() {
+        push_mark(&mut marks, arcs[arc].ends, arc as u32, node)?;
+    }
+    Ok(marks)
+}
