@@ -1,6 +1,8 @@
 -- What the lists of a piece say beside a number, and that they keep their shape when a value beside a number changes.
 use Rattle.std.specs.Prelude.{◌≡◌, ◌≢◌, ◌⊎◌, ◌↔◌, ℕ, ◌+◌, ◌<◌, ◌==◌, Bool, true, false, zero, suc, if◌then◌else◌, Option, Some, None, is_some, List, [], ◌∷◌, ◌++◌, length, map}
+use Rattle.std.specs.List.{zip}
 use Rattle.std.specs.List.Sorted.{IsStrictlyIncreasing}
+use Rattle.std.proofs.lemmas.Slice.Zip.{length-zip, get_or-zip}
 use Rattle.std.proofs.Common.{refl, sym, ap, subst, ◌∙◌, inl, inr, arith, get_or, set}
 use Rattle.std.proofs.Math.Seq.{map-set_same}
 use Rattle.std.proofs.lemmas.Bool.{cases_eq}
@@ -8,13 +10,13 @@ use Rattle.std.proofs.lemmas.Bool.Decides.{nat_tests}
 use Rattle.std.proofs.lemmas.List.{length-map, get_or-map, ext_get_or, get_or-set_same, get_or-set_other, length-set}
 use Rattle.gain_graphs.specs.Arcs.{IsIn}
 use Rattle.gain_graphs.specs.QuasiTrees.{IsQuasiTree}
-use Rattle.np_frac.specs.Ratio.{Ratio}
+use Rattle.np_frac.specs.Ratio.{Ratio, zero_ratio}
 use Rattle.np_model.specs.declared.arc.Ends.{Ends}
 use Rattle.np_model.specs.declared.log.Mark.{Mark}
 use Rattle.np_model.specs.declared.log.Mark.TheVariants.{Lower, Basic}
 use Rattle.np_model.specs.Basis.Graphs.{ratios, graph_ends}
 use Rattle.np_model.specs.Basis.Pieces.{PieceLists, nodes_in, basics_in, ends_in, marked_in, beside, marks_of, flows_of, HasShape, IsStored}
-use Rattle.quasi_tree.specs.Store.{IsHeld, put_beside, with_potential, with_flow, with_mark}
+use Rattle.quasi_tree.specs.Store.{IsHeld, put_beside, with_potential, with_potentials, with_flow, with_mark}
 use Rattle.quasi_tree.specs.Place.{IsPlace}
 use Rattle.quasi_tree.proofs.Places.{rise, one_place, is_in_at}
 
@@ -213,3 +215,39 @@ module _ (p : PieceLists) (held : IsHeld p) (i : ℕ) where
       let shape = shape_of p (omega arith) held.stored in
       sym (beside_beyond Lower (map (λ (b : ℕ × Ends × Ratio). (b.0, Basic)) p.basics) p.marks arc (λ is_in. none (subst (λ t. IsIn arc t) (basic_numbers p.basics) is_in))
       ∙ beside_at Lower p.marks i arc d shape.marks_ascend below here)
+
+-- ---- other values beside all numbers
+
+pub put_all : (old new : List (ℕ × Ratio)) (values : List Ratio) → length values ≡ length old → length new ≡ length old
+    → ((i : ℕ) (d : ℕ × Ratio) → i < length old → get_or new i d ≡ ((get_or old i d).0, get_or values i zero_ratio)) → new ≡ zip (map (λ n. n.0) old) values
+put_all old new values long same each =
+    ext_get_or (0, zero_ratio) new (zip (map (λ (n : ℕ × Ratio). n.0) old) values)
+    (omega (arith, length-zip (map (λ (n : ℕ × Ratio). n.0) old) values, length-map old (λ (n : ℕ × Ratio). n.0)))
+    (λ i below.
+    let in_old : i < length old = omega (arith, same) in
+    each i (0, zero_ratio) in_old
+    ∙ ap (λ (n : ℕ). (n, get_or values i zero_ratio)) (sym (get_or-map (λ (n : ℕ × Ratio). n.0) old i (0, zero_ratio) 0 in_old))
+    ∙ sym (get_or-zip (map (λ (n : ℕ × Ratio). n.0) old) values i (0, zero_ratio) (omega (arith, length-map old (λ (n : ℕ × Ratio). n.0))) (omega (arith, long))))
+
+-- a store with other potentials
+pub held_nodes : (p : PieceLists) (values : List Ratio) → length values ≡ length p.nodes → IsHeld p → IsHeld (with_potentials p values)
+held_nodes p values long held =
+    let q : PieceLists = with_potentials p values in
+    let count : length q.nodes ≡ length p.nodes = omega (arith, length-zip (nodes_in p) values, length-map p.nodes (λ (n : ℕ × Ratio). n.0)) in
+    record {
+      stored = elim held.stored [
+        | inl vacant ↦ inl (record { no_nodes = no_zip vacant.no_nodes; no_basics = vacant.no_basics; no_marks = vacant.no_marks })
+        | inr shape ↦ inr (same_shape p q (numbers p.nodes values long) refl refl refl shape.at_bounds shape)
+      ];
+      few_nodes = omega (arith, count, held.few_nodes);
+      few_basics = held.few_basics;
+      few_marks = held.few_marks;
+    }
+  where
+    no_zip : p.nodes ≡ [] → zip (nodes_in p) values ≡ []
+    no_zip e = ap (λ (t : List (ℕ × Ratio)). zip (map (λ (n : ℕ × Ratio). n.0) t) values) e
+    numbers : (ns : List (ℕ × Ratio)) (xs : List Ratio) → length xs ≡ length ns → map (λ (n : ℕ × Ratio). n.0) (zip (map (λ (n : ℕ × Ratio). n.0) ns) xs) ≡ map (λ (n : ℕ × Ratio). n.0) ns
+    numbers [] [] e = refl
+    numbers [] (x ∷ xs) e = absurd (omega arith)
+    numbers (n ∷ ns) [] e = absurd (omega arith)
+    numbers (n ∷ ns) (x ∷ xs) e = ap (λ (t : List ℕ). n.0 ∷ t) (numbers ns xs (omega arith))

@@ -33,9 +33,11 @@ pub(crate) fn mark_place(marks: &[(u32, Mark)], arc: u32) -> Option<usize>
 }
 
 /// Puts these values beside the numbers of a list, in order.
-pub(crate) fn put_values(entries: &mut [(u32, Frac)], values: &[Frac])
-    requires { length values.now ≡ length entries.old }
-    ensures { entries.new ≡ zip (map (λ n. n.0) entries.old) values.now }
+pub(crate) fn put_values(entries: &mut Vec<(u32, Frac)>, values: &[Frac])
+    requires { length values.now ≡ length entries.old.items }
+    ensures items { entries.new.items ≡ zip (map (λ n. n.0) entries.old.items) values.now }
+    ensures length { entries.new.len ≡ entries.old.len }
+    ensures capacity { entries.new.cap ≡ entries.old.cap }
 {
     for place in 0..values.len() {
         entries[place].1 = values[place];

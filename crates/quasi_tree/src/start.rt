@@ -17,7 +17,7 @@ pub(crate) fn start_potential(ends: Ends) -> Frac
     ensures { result ≡ end_potential ends }
 {
     match ends {
-        Ends::Feed(_) => Frac::whole(-1),
+        Ends::Feed(_) => Frac::whole(1).negated(),
         _ => Frac::whole(1),
     }
 }
@@ -45,7 +45,7 @@ fn push_mark(marks: &mut Vec<(u32, Mark)>, ends: Ends, arc: u32, node: u32) -> R
 /// The marks of the arcs that touch a node, each at its lower bound.
 pub(crate) fn marks_at(alloc: Global, arcs: &[NetArc], node: u32) -> Result<Vec<(u32, Mark)>, Memory>
     requires { length arcs.now < 2 ^ 32 }
-    ensures { IfOk result (λ marks. marks.items ≡ map (λ a. (a, marked.Lower)) (filter (λ a. touches (ends_at arcs.now a) node) (range_with_len 0 (length arcs.now)))) }
+    ensures { IfOk result (λ marks. marks.items ≡ filter (λ m. touches (ends_at arcs.now m.0) node) (map (λ a. (a, marked.Lower)) (range_with_len 0 (length arcs.now)))) }
 {
     let mut marks = Vec::new(alloc);
     for arc in 0..arcs.len() {

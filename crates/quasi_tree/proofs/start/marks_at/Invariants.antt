@@ -6,4 +6,4 @@ use Rattle.np_model.specs.Basis.Starts.{touches}
 use Rattle.quasi_tree.proofs.start.marks_at.Given as goal
 
 abbrev pub invariant-loop-arc : goal.invariant-loop-arc
-invariant-loop-arc l = l.marks.items ≡ map (λ a. (a, Lower)) (filter (λ a. touches (ends_at l.arcs a) l.node) (range_with_len 0 l.arc))
+invariant-loop-arc l = l.marks.items ≡ filter (λ m. touches (ends_at l.arcs m.0) l.node) (map (λ a. (a, Lower)) (range_with_len 0 l.arc))
