@@ -246,6 +246,7 @@ held_nodes p values long held =
   where
     no_zip : p.nodes ≡ [] → zip (nodes_in p) values ≡ []
     no_zip e = ap (λ (t : List (ℕ × Ratio)). zip (map (λ (n : ℕ × Ratio). n.0) t) values) e
+
     numbers : (ns : List (ℕ × Ratio)) (xs : List Ratio) → length xs ≡ length ns → map (λ (n : ℕ × Ratio). n.0) (zip (map (λ (n : ℕ × Ratio). n.0) ns) xs) ≡ map (λ (n : ℕ × Ratio). n.0) ns
     numbers [] [] e = refl
     numbers [] (x ∷ xs) e = absurd (omega arith)

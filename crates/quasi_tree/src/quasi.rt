@@ -1,6 +1,6 @@
 //! A piece in its store.
 
-use crate::lists::{FlowList, Lists, MarkList, NodeList};
+use crate::lists::{Lists, MarkList};
 use std::marker::Model;
 
 /// A piece of an augmented forest, or an empty store for one. It keeps the shape of its lists and no more: that they ascend, that nodes and
@@ -30,7 +30,7 @@ ghost use Rattle.np_model.specs.Basis.Starts.{artificial_ends, start_flows, star
 ghost use Rattle.quasi_tree.specs.Store.{IsHeld, with_potential, with_potentials, with_flow, with_mark};
 
 use crate::place::{basic_place, mark_place, node_place, put_values};
-use crate::start::{marks_at, start_potential};
+use crate::start::{basic_alone, marks_at, node_alone, start_potential};
 use np_frac::{Frac, Memory};
 use np_model::{Mark, Piece, StartBasis};
 use std::alloc::Global;
@@ -138,17 +138,16 @@ impl Quasi {
         ensures { IfOk result (λ piece. piece.lists ≡ start_piece (network_of start.now.full.net) node) }
     {
         let real = start.full.net.arcs.items.len();
+        let potential = start_potential(&start.full.artificial.items[node as usize]);
+        let nodes = node_alone(alloc, node, potential)?;
         let ends = start.full.artificial.items[node as usize];
         let flow = start.flows.items[real + node as usize];
-        let mut nodes = Vec::with_capacity(alloc, 1)?;
-        nodes.push((node, start_potential(ends)))?;
-        let mut basics = Vec::with_capacity(alloc, 1)?;
-        basics.push((real as u32 + node, ends, flow))?;
+        let basics = basic_alone(alloc, real as u32 + node, ends, flow)?;
         let marks = marks_at(alloc, start.full.net.arcs.as_slice(), node)?;
         Ok(Quasi {
             lists: Lists {
-                nodes: NodeList { items: nodes },
-                basics: FlowList { items: basics },
+                nodes,
+                basics,
                 marks: MarkList { items: marks },
             },
         })

@@ -7,7 +7,7 @@ use Rattle.quasi_tree.proofs.quasi.QuasiPiece.mark_of.Goals as goal
 pub returns-then-is_some : goal.returns-then-is_some
 returns-then-is_some c =
     let found = (found_is (λ b. b.0) c.as_slice.result.now c.args.arc c.basic_place.result (0, Drain 0, zero_ratio) c.basic_place.ensures).0 (sym c.is_some.ensures ∙ c.if-is_some.true) in
-    rw (← c.self.view_is, ← c.self-inside.view_is) 
+    rw (← c.self.view_is, ← c.self-inside.view_is)
     (basic_is (record { nodes = c.self-inside.inside.0.0.nodes.items.items; basics = c.self-inside.inside.0.0.basics.items.items; marks = c.self-inside.inside.0.0.marks.items.items })
     c.args.arc (rw c.as_slice.ensures.value at found))
 
