@@ -1,26 +1,21 @@
 -- The piece of a node at the start.
-use Rattle.std.specs.Prelude.{◌≡◌, ◌≢◌, ◌⊎◌, ℕ, ◌+◌, ◌<◌, ◌≤◌, ◌==◌, ◌^◌, ◌-◌, zero, suc, Bool, true, false, if◌then◌else◌, List, [], ◌∷◌, ◌++◌, length, map, filter}
+use Rattle.std.specs.Prelude.{◌≡◌, ℕ, ◌+◌, ◌<◌, ◌^◌, ◌-◌, Bool, true, false, if◌then◌else◌, List, [], ◌∷◌, ◌++◌, length, map, filter}
 use Rattle.std.specs.List.{range_with_len}
-use Rattle.std.specs.List.Sorted.{IsStrictlyIncreasing}
-use Rattle.std.proofs.Common.{refl, sym, ap, subst, ◌∙◌, inl, inr, arith, get_or}
+use Rattle.std.proofs.Common.{refl, sym, ap, ◌∙◌, inr, arith, get_or}
 use Rattle.std.proofs.lemmas.List.{get_or_default, length-map, get_or-append_right}
-use Rattle.std.proofs.lemmas.List.FromFn.{filter_of_map_range_with_len_more, get_or-range_with_len, get_or-map-range_with_len, length-range_with_len}
-use Rattle.std.proofs.lemmas.List.Kept.{IsStrictlyIncreasing-filter}
+use Rattle.std.proofs.lemmas.List.FromFn.{filter_of_map_range_with_len_more, get_or-map-range_with_len, length-map-range_with_len}
 use Rattle.std.proofs.lemmas.List.Sums.{length-filter, count_by-le-length}
-use Rattle.gain_graphs.specs.Arcs as graph
-use Rattle.gain_graphs.specs.Arcs.{IsIn}
-use Rattle.gain_graphs.specs.QuasiTrees.{IsQuasiTree}
 use Rattle.np_frac.specs.Ratio.{Ratio, zero_ratio, one_ratio, negated, is_below}
 use Rattle.np_model.specs.declared.arc.Ends.{Ends}
-use Rattle.np_model.specs.declared.arc.Ends.TheVariants.{Link, Drain, Feed}
+use Rattle.np_model.specs.declared.arc.Ends.TheVariants.{Drain, Feed}
 use Rattle.np_model.specs.declared.arc.NetArc.{NetArc}
 use Rattle.np_model.specs.declared.log.Mark.{Mark}
-use Rattle.np_model.specs.declared.log.Mark.TheVariants.{Lower, Basic}
+use Rattle.np_model.specs.declared.log.Mark.TheVariants.{Lower}
 use Rattle.np_model.specs.Network.Flows.{Network}
-use Rattle.np_model.specs.Basis.Artificial.{IsOneEndAt}
-use Rattle.np_model.specs.Basis.Graphs.{ratios, graph_ends, no_arc, ends_at}
-use Rattle.np_model.specs.Basis.Pieces.{PieceLists, marked_in}
+use Rattle.np_model.specs.Basis.Graphs.{no_arc, ends_at}
+use Rattle.np_model.specs.Basis.Pieces.{PieceLists}
 use Rattle.np_model.specs.Basis.Starts.{residual, artificial_end, artificial_flow, artificial_ends, start_flows, start_potential, nodes_from_0, start_piece, touches}
+use Rattle.np_basis.proofs.StartPieces.{start_piece_has_shape}
 use Rattle.quasi_tree.specs.Start.{end_potential}
 use Rattle.quasi_tree.specs.Store.{IsHeld}
 
@@ -44,99 +39,17 @@ potential_by_end net v = either (is_below (residual net v) zero_ratio)
     either true = refl
     either false = refl
 
--- ---- its shape
-
-range_rises : (n : ℕ) → IsStrictlyIncreasing (range_with_len 0 n)
-range_rises n k below =
-    let long : k + 1 < n = omega (arith, length-range_with_len 0 n, below) in
-    rw (get_or-range_with_len 0 n k 0 (omega arith), get_or-range_with_len 0 n (k + 1) 0 long) (omega arith)
-
-one_rises : (x : ℕ) → IsStrictlyIncreasing (x ∷ [])
-one_rises x k below = absurd (omega arith)
-
--- the numbers of the marks
-marked_numbers : (p : ℕ → Bool) (xs : List ℕ) → map (λ (m : ℕ × Mark). m.0) (filter (λ (m : ℕ × Mark). p m.0) (map (λ a. (a, Lower)) xs)) ≡ filter p xs
-marked_numbers p [] = refl
-marked_numbers p (x ∷ xs) = by_test (p x) (marked_numbers p xs)
-  where
-    by_test : (b : Bool) → map (λ (m : ℕ × Mark). m.0) (filter (λ (m : ℕ × Mark). p m.0) (map (λ a. (a, Lower)) xs)) ≡ filter p xs
-        → map (λ (m : ℕ × Mark). m.0) (if b then (x, Lower) ∷ filter (λ (m : ℕ × Mark). p m.0) (map (λ a. (a, Lower)) xs) else filter (λ (m : ℕ × Mark). p m.0) (map (λ a. (a, Lower)) xs))
-        ≡ (if b then x ∷ filter p xs else filter p xs)
-    by_test true rest = ap (λ (t : List ℕ). x ∷ t) rest
-    by_test false rest = rest
-
-filtered_below : (p : ℕ → Bool) (a n v : ℕ) → IsIn v (filter p (range_with_len a n)) → v < a + n
-filtered_below p a zero v none = absurd none
-filtered_below p a (suc n) v is_in = by_test (p a) (filtered_below p (a + 1) n v) is_in
-  where
-    by_test : (b : Bool) → (IsIn v (filter p (range_with_len (a + 1) n)) → v < a + 1 + n)
-        → IsIn v (if b then a ∷ filter p (range_with_len (a + 1) n) else filter p (range_with_len (a + 1) n)) → v < a + suc n
-    by_test true later (inl e) = omega (arith, e)
-    by_test true later (inr i) = let l = later i in omega (arith, l)
-    by_test false later i = let l = later i in omega (arith, l)
-
-all_lower : (p : ℕ → Bool) (xs : List ℕ) (m : ℕ × Mark) → IsIn m (filter (λ (k : ℕ × Mark). p k.0) (map (λ a. (a, Lower)) xs)) → m.1 ≡ Lower
-all_lower p [] m none = absurd none
-all_lower p (x ∷ xs) m is_in = by_test (p x) (all_lower p xs m) is_in
-  where
-    by_test : (b : Bool) → (IsIn m (filter (λ (k : ℕ × Mark). p k.0) (map (λ a. (a, Lower)) xs)) → m.1 ≡ Lower)
-        → IsIn m (if b then (x, Lower) ∷ filter (λ (k : ℕ × Mark). p k.0) (map (λ a. (a, Lower)) xs) else filter (λ (k : ℕ × Mark). p k.0) (map (λ a. (a, Lower)) xs))
-        → m.1 ≡ Lower
-    by_test true later (inl e) = ap (λ (k : ℕ × Mark). k.1) e
-    by_test true later (inr i) = later i
-    by_test false later i = later i
-
--- a node with an arc of one end is a quasi-tree
-one_end_tree : (v : ℕ) (e : Ends) → IsOneEndAt v e → IsQuasiTree ratios (v ∷ []) (graph_ends e ∷ [])
-one_end_tree v (Link from to gain) none = absurd none
-one_end_tree v (Drain at) here = record {
-  nodes_once = ((λ none. none), tt);
-  some_node = (v, inl refl);
-  ends_inside = λ a is_in. elim is_in [ inl e ↦ rw e (inl here) | inr none ↦ absurd none ];
-  joined = λ u w i j. elim i [ inl p ↦ elim j [ inl r ↦ ([], p ∙ sym r) | inr k ↦ absurd k ] | inr k ↦ absurd k ];
-  as_many = refl;
-  extra = inl (graph.Drain at, inl refl, tt);
-}
-one_end_tree v (Feed at) here = record {
-  nodes_once = ((λ none. none), tt);
-  some_node = (v, inl refl);
-  ends_inside = λ a is_in. elim is_in [ inl e ↦ rw e (inl here) | inr none ↦ absurd none ];
-  joined = λ u w i j. elim i [ inl p ↦ elim j [ inl r ↦ ([], p ∙ sym r) | inr k ↦ absurd k ] | inr k ↦ absurd k ];
-  as_many = refl;
-  extra = inl (graph.Feed at, inl refl, tt);
-}
-
-artificial_at : (net : Network) (v : ℕ) → IsOneEndAt v (artificial_end net v)
-artificial_at net v = either (is_below (residual net v) zero_ratio)
-  where
-    either : (b : Bool) → IsOneEndAt v (if b then Feed v else Drain v)
-    either true = refl
-    either false = refl
-
 -- the piece of a node at the start can be held
 pub held_start : (net : Network) (v : ℕ) → length net.arcs < 2 ^ 32 → IsHeld (start_piece net v)
-held_start net v few =
-    let m : ℕ = length net.arcs in
-    let p : ℕ → Bool = λ a. touches (ends_at net.arcs a) v in
-    let numbers : marked_in (start_piece net v) ≡ filter p (range_with_len 0 m) = marked_numbers p (range_with_len 0 m) in
-    record {
-      stored = inr (record {
-        nodes_ascend = one_rises v;
-        basics_ascend = one_rises (m + v);
-        marks_ascend = subst (λ t. IsStrictlyIncreasing t) (sym numbers) (IsStrictlyIncreasing-filter p (range_with_len 0 m) (range_rises m));
-        quasi_tree = one_end_tree v (artificial_end net v) (artificial_at net v);
-        others = λ a is_in basic. elim basic [
-          | inl e ↦ absurd (omega (arith, e, filtered_below p 0 m a (subst (λ t. IsIn a t) numbers is_in)))
-          | inr none ↦ absurd none
-        ];
-        at_bounds = λ mark is_in basic. absurd (cc (sym (all_lower p (range_with_len 0 m) mark is_in) ∙ basic));
-      });
-      few_nodes = omega arith;
-      few_basics = omega arith;
-      few_marks =
-          let many : length (start_piece net v).marks ≡ length (filter p (range_with_len 0 m)) = sym (length-map (start_piece net v).marks (λ (k : ℕ × Mark). k.0)) ∙ ap length numbers in
-          omega (arith, many, few, length-filter p (range_with_len 0 m), count_by-le-length p (range_with_len 0 m), length-range_with_len 0 m);
-    }
+held_start net v few = record {
+  stored = inr (start_piece_has_shape net v);
+  few_nodes = omega arith;
+  few_basics = omega arith;
+  few_marks =
+      let p : ℕ × Mark → Bool = λ m. touches (ends_at net.arcs m.0) v in
+      let all : List (ℕ × Mark) = map (λ a. (a, Lower)) (range_with_len 0 (length net.arcs)) in
+      omega (arith, few, length-filter p all, count_by-le-length p all, length-map-range_with_len {X = ℕ × Mark} (λ (a : ℕ). (a, Lower)) 0 (length net.arcs));
+}
 
 -- and its lists are what is read in those of the start
 pub single_is : (net : Network) (v : ℕ) (artificial : List Ends) (flows : List Ratio) (potential : Ratio) (d e : Ends) (x : Ratio) (piece : PieceLists) → v < length net.supply
