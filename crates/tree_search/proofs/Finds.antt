@@ -8,7 +8,7 @@ use Rattle.tree_search.specs.declared.piece.Step.{Step}
 use Rattle.tree_search.specs.declared.piece.Joint.{Joint}
 use Rattle.tree_search.specs.declared.piece.ExtraArc.TheVariants as found
 use Rattle.tree_search.specs.Places.{ends_at, loose, HasOneEnd, IsJoint, AreJoints, IsTree}
-use Rattle.tree_search.specs.Finding.{IsFound, IsRest, ClosesRound, IsTurned}
+use Rattle.tree_search.specs.Finding.{IsFound, IsCycleOf}
 use Rattle.tree_search.proofs.Trees
 use Rattle.tree_search.proofs.Rounded
 
@@ -24,9 +24,8 @@ one_found nodes arcs joints are one h e = record {
     go (the.Drain at) j e = sym j.0.1
     go (the.Feed at) j e = sym j.0.1
 
-pub round_found : (nodes : List ℕ) (arcs : List (ℕ × Ends × Ratio)) (joints : List Joint) → AreJoints nodes arcs joints → IsTree nodes arcs → (n rest : ℕ) → IsRest joints n rest → (one : ℕ) → length arcs ≤ one
-    → ((i : ℕ) → i < one → ¬ HasOneEnd (ends_at arcs i)) → (round : List Step) → ClosesRound joints n rest round → (cycle : List Step) → IsTurned round cycle
-    → (m : ℕ) × Rounded.IsPlaceCycle joints m cycle
-round_found nodes arcs joints are tree n rest is one over none round closes cycle turned =
-    let b = Rounded.round_is nodes arcs joints are tree n rest is (λ i h. none i (omega (arith, h, over))) round closes in
-    Rounded.canonical_is joints b.0 round cycle b.1 turned
+pub round_found : (nodes : List ℕ) (arcs : List (ℕ × Ends × Ratio)) (joints : List Joint) → AreJoints nodes arcs joints → IsTree nodes arcs → (one : ℕ) → length arcs ≤ one → ((i : ℕ) → i < one → ¬ HasOneEnd (ends_at arcs i))
+    → (n : ℕ) (cycle : List Step) → IsCycleOf joints n cycle → (m : ℕ) × Rounded.IsPlaceCycle joints m cycle
+round_found nodes arcs joints are tree one over none n cycle is =
+    let b = Rounded.round_is nodes arcs joints are tree n is.arc is.rest (λ i h. none i (omega (arith, h, over))) is.round is.closes in
+    Rounded.canonical_is joints b.0 is.round cycle b.1 is.turned

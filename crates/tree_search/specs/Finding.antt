@@ -125,3 +125,11 @@ pub record ClosesRound (joints : List Joint) (n arc : ℕ) (round : List Step) :
   pub is_search : IsSearch (cut_off joints arc) n (tail_at joints arc ∷ []) search
   pub closed : IsClosed (cut_off joints arc) search.queue.items
   pub is : round ≡ back_from (reverse search.steps.items) (head_at joints arc) ++ record { arc = arc; near = tail_at joints arc; far = head_at joints arc } ∷ []
+
+-- the cycle that the arc left over closes, from its least node
+pub record IsCycleOf (joints : List Joint) (n : ℕ) (cycle : List Step) : Type 0 where
+  pub arc : ℕ
+  pub rest : IsRest joints n arc
+  pub round : List Step
+  pub closes : ClosesRound joints n arc round
+  pub turned : IsTurned round cycle

@@ -3,7 +3,7 @@
 ghost use Rattle.std.specs.Prelude.{◌≡◌, ◌<◌, ◌≤◌, ◌^◌, ◌↔◌, ℕ, length, true, IfOk};
 ghost use Rattle.tree_search.specs.Places.{nodes_in, ends_at, HasOneEnd, AreJoints, IsTree};
 ghost use Rattle.tree_search.specs.Search.{AreBelow, IsIncidence};
-ghost use Rattle.tree_search.specs.Finding.{cut_off, IsRest, ClosesRound, IsFound, CanBeginAt};
+ghost use Rattle.tree_search.specs.Finding.{cut_off, IsRest, ClosesRound, IsCycleOf, IsFound, CanBeginAt};
 
 use crate::marks::{marks_of, unmarked};
 use crate::piece::{ExtraArc, Joint, Step};
@@ -95,6 +95,26 @@ fn round_over(alloc: Global, joints: &[Joint], nodes: usize, arc: u32) -> Result
     Ok(round)
 }
 
+// The cycle of as many links as there are nodes.
+pub(crate) fn cycle_of(
+    alloc: Global,
+    joints: &[Joint],
+    incidence: &Incidence,
+    nodes: usize,
+) -> Result<Vec<Step>, Memory>
+    requires ends { AreBelow nodes joints.now }
+    requires few { length joints.now < 2 ^ 32 }
+    requires few_nodes { nodes < 2 ^ 32 }
+    requires lists { IsIncidence joints.now nodes incidence.now }
+    requires as_many { length joints.now ≡ nodes }
+    requires some { 0 < nodes }
+    ensures { IfOk result (λ cycle. IsCycleOf joints.now nodes cycle.items) }
+{
+    let rest = rest_of(alloc, joints, incidence, nodes)?;
+    let round = round_over(alloc, joints, nodes, rest)?;
+    from_least(alloc, round.as_slice())
+}
+
 /// The extra arc of a piece with no loops: its arc with one end, or its cycle. In time proportional to the piece.
 pub fn find_extra(
     alloc: Global,
@@ -114,8 +134,6 @@ pub fn find_extra(
     if one < basics.len() {
         return Ok(ExtraArc::OneEnd { arc: one as u32 });
     }
-    let rest = rest_of(alloc, joints, incidence, nodes.len())?;
-    let round = round_over(alloc, joints, nodes.len(), rest)?;
-    let cycle = from_least(alloc, round.as_slice())?;
+    let cycle = cycle_of(alloc, joints, incidence, nodes.len())?;
     Ok(ExtraArc::Round { cycle })
 }
