@@ -53,29 +53,29 @@ module _ (nodes : List ℕ) (arcs : List (ℕ × Ends × Ratio)) (joints : List 
   abbrev hops : List Hop
   hops = hops_of nodes arcs search.steps.items
 
-  places : ArePlaces nodes (starts_of joints extra) (extra_nodes x)
+  pub places : ArePlaces nodes (starts_of joints extra) (extra_nodes x)
   places = places_of nodes arcs joints are extra is_found.laid_out
 
-  goes : Hops.HopsOn ends own (extra_nodes x) hops
+  pub goes : Hops.HopsOn ends own (extra_nodes x) hops
   goes = Placed.goes nodes arcs joints are tree ends of search.steps.items (starts_of joints extra) (extra_nodes x) places is_search.goes
 
-  is_extra : IsExtra ends own x
+  pub is_extra : IsExtra ends own x
   is_extra = is_found.is_extra ends of
 
-  shape : IsQuasiTree ratios nodes (map (graph_of ends) own)
+  pub shape : IsQuasiTree ratios nodes (map (graph_of ends) own)
   shape = Trees.shape nodes arcs tree ends of
 
-  lies : (a : ℕ) → IsIn a own → LiesIn ratios nodes (graph_of ends a)
+  pub lies : (a : ℕ) → IsIn a own → LiesIn ratios nodes (graph_of ends a)
   lies = Trees.lies nodes arcs tree ends of
 
-  all : (v : ℕ) → IsIn v nodes → IsIn v (extra_nodes x) ⊎ IsIn v (far_nodes hops)
+  pub all : (v : ℕ) → IsIn v nodes → IsIn v (extra_nodes x) ⊎ IsIn v (far_nodes hops)
   all = Placed.all_nodes nodes arcs joints are tree (starts_of joints extra) (extra_nodes x) search.steps.items search.queue.items is_search.queued places closed
       (root x) ((Hops.extra_is ends nodes own x shape lies is_extra).inside) (Hops.root_is_in ends own x is_extra)
 
   hop_in : (s : Step) → IsIn s search.steps.items → IsIn (as_hop nodes arcs s) hops
   hop_in s i = in_map (as_hop nodes arcs) s search.steps.items i
 
-  over : (a u v : ℕ) → Hangs ends own x a u v → IsStepOver nodes arcs search.steps.items a u v
+  pub over : (a u v : ℕ) → Hangs ends own x a u v → IsStepOver nodes arcs search.steps.items a u v
   over a u v h =
       let r = Hops.hangs_hop ends nodes own x shape lies is_extra hops goes all a u v h in
       let s = in_map_of (as_hop nodes arcs) r.0 search.steps.items r.1 in
@@ -87,12 +87,12 @@ module _ (nodes : List ℕ) (arcs : List (ℕ × Ends × Ratio)) (joints : List 
         far = sym (ap (λ (t : Hop). t.far) s.2) ∙ r.4;
       }
 
-  of_far : (steps : List Step) (v : ℕ) → IsIn v (far_nodes (hops_of nodes arcs steps)) → (s : Step) × IsIn s steps × (v ≡ slice_index nodes s.far)
+  pub of_far : (steps : List Step) (v : ℕ) → IsIn v (far_nodes (hops_of nodes arcs steps)) → (s : Step) × IsIn s steps × (v ≡ slice_index nodes s.far)
   of_far [] v i = absurd i
   of_far (s ∷ steps) v (inl e) = (s, inl refl, e)
   of_far (s ∷ steps) v (inr i) = let r = of_far steps v i in (r.0, inr r.1, r.2)
 
-  hang : (s : Step) → IsIn s search.steps.items → Hangs ends own x (number_at arcs s.arc) (slice_index nodes s.near) (slice_index nodes s.far)
+  pub hang : (s : Step) → IsIn s search.steps.items → Hangs ends own x (number_at arcs s.arc) (slice_index nodes s.near) (slice_index nodes s.far)
   hang s i = Hops.hangs ends nodes own x shape lies is_extra hops goes (as_hop nodes arcs s) (hop_in s i)
 
   pub outwards : AreOutwards ends nodes arcs x search.steps.items

@@ -10,3 +10,4 @@ pub mod Hanging
 pub mod Rounded
 pub mod Finds
 pub mod Starred
+pub mod Leading
