@@ -13,7 +13,7 @@ use Rattle.tree_search.specs.declared.piece.Joint.{Joint}
 use Rattle.tree_search.specs.declared.piece.ExtraArc.{ExtraArc}
 use Rattle.tree_search.specs.declared.piece.ExtraArc.TheVariants as found
 use Rattle.tree_search.specs.declared.search.Search.{Search}
-use Rattle.tree_search.specs.Places.{numbers_in, number_at, loose, AreEndsOf, AreJoints, StandsAt, ArePlaces, IsTree}
+use Rattle.tree_search.specs.Places.{numbers_of_arcs, number_by_place, loose, AreEndsOf, AreJoints, IsPlaceOf, ArePlaces, IsTree}
 use Rattle.tree_search.specs.Search.{IsSearch, IsClosed, fars}
 use Rattle.tree_search.specs.Finding.{IsLaidOut, IsFound, as_extra, starts_of, way_of}
 use Rattle.tree_search.specs.Outwards.{IsStepOver, AreOutwards, SearchesGoOutwards}
@@ -33,12 +33,12 @@ places_of nodes arcs joints are (found.OneEnd arc) laid v = (
 places_of nodes arcs joints are (found.Round cycle) laid v = (to cycle.items (λ i d h. (laid.1 i d h).2), from cycle.items)
   where
     to : (steps : List Step) → ((i : ℕ) (d : Step) → i < length steps → (slice_index_or steps i d).far < length nodes) → IsIn v (nodes_along (way_of nodes arcs steps))
-        → (p : ℕ) × IsIn p (fars steps) × StandsAt nodes v p
+        → (p : ℕ) × IsIn p (fars steps) × IsPlaceOf nodes v p
     to [] all i = absurd i
     to (s ∷ steps) all (inl e) = (s.far, inl refl, (all zero s (omega arith), sym e))
     to (s ∷ steps) all (inr i) = let r = to steps (λ k d h. all (suc k) d (omega arith)) i in (r.0, inr r.1, r.2)
 
-    from : (steps : List Step) → ((p : ℕ) × IsIn p (fars steps) × StandsAt nodes v p) → IsIn v (nodes_along (way_of nodes arcs steps))
+    from : (steps : List Step) → ((p : ℕ) × IsIn p (fars steps) × IsPlaceOf nodes v p) → IsIn v (nodes_along (way_of nodes arcs steps))
     from [] r = absurd r.1
     from (s ∷ steps) r = elim r.1 [ inl e ↦ inl (sym r.2.1 ∙ ap (λ t. slice_index nodes t) e) | inr i ↦ inr (from steps (r.0, i, r.2)) ]
 
@@ -48,7 +48,7 @@ module _ (nodes : List ℕ) (arcs : List (ℕ × Ends × Ratio)) (joints : List 
   x = as_extra nodes arcs joints extra
 
   abbrev own : List ℕ
-  own = numbers_in arcs
+  own = numbers_of_arcs arcs
 
   abbrev hops : List Hop
   hops = hops_of nodes arcs search.steps.items
@@ -92,7 +92,7 @@ module _ (nodes : List ℕ) (arcs : List (ℕ × Ends × Ratio)) (joints : List 
   of_far (s ∷ steps) v (inl e) = (s, inl refl, e)
   of_far (s ∷ steps) v (inr i) = let r = of_far steps v i in (r.0, inr r.1, r.2)
 
-  pub hang : (s : Step) → IsIn s search.steps.items → Hangs ends own x (number_at arcs s.arc) (slice_index nodes s.near) (slice_index nodes s.far)
+  pub hang : (s : Step) → IsIn s search.steps.items → Hangs ends own x (number_by_place arcs s.arc) (slice_index nodes s.near) (slice_index nodes s.far)
   hang s i = Hops.hangs ends nodes own x shape lies is_extra hops goes (as_hop nodes arcs s) (hop_in s i)
 
   pub outwards : AreOutwards ends nodes arcs x search.steps.items
@@ -105,7 +105,7 @@ module _ (nodes : List ℕ) (arcs : List (ℕ × Ends × Ratio)) (joints : List 
     ];
     reach = λ v i. elim (all v i) [
       | inl j ↦ inl j
-      | inr j ↦ let r = of_far search.steps.items v j in inr (number_at arcs r.0.arc, slice_index nodes r.0.near, subst (Hangs ends own x (number_at arcs r.0.arc) (slice_index nodes r.0.near)) (sym r.2) (hang r.0 r.1))
+      | inr j ↦ let r = of_far search.steps.items v j in inr (number_by_place arcs r.0.arc, slice_index nodes r.0.near, subst (Hangs ends own x (number_by_place arcs r.0.arc) (slice_index nodes r.0.near)) (sym r.2) (hang r.0 r.1))
     ];
     apart = λ a u v h.
         let s = over a u v h in

@@ -1,24 +1,20 @@
 -- The steps of the cycle but its last, and those of a search, in order outwards.
-use Rattle.std.proofs.Common.{◌≡◌, ◌⊎◌, inl, inr, sym, ap, refl, ◌∙◌, subst, ℕ, zero, suc, ◌-◌, ◌<◌, List, [], ◌∷◌, ◌++◌, length, take, slice_index, arith}
+use Rattle.std.proofs.Common.{◌≡◌, ◌⊎◌, inl, inr, sym, ap, refl, ◌∙◌, subst, ℕ, suc, ◌-◌, List, [], ◌∷◌, ◌++◌, length, take, slice_index, arith}
 use Rattle.gain_graphs.specs.Arcs.{IsIn}
 use Rattle.gain_graphs.specs.Cycles.{nodes_along, IsWay}
 use Rattle.gain_graphs.proofs.Lists.{in_front, in_back}
 use Rattle.np_frac.specs.Ratio.{Ratio}
 use Rattle.np_model.specs.declared.arc.Ends.{Ends}
 use Rattle.np_model.specs.Basis.Graphs.{graph_of}
-use Rattle.np_model.specs.Rows.Extra.{Extra, Round, root, extra_nodes, IsOnRound, Hangs, Leads}
+use Rattle.np_model.specs.Rows.Extra.{Extra, root, extra_nodes, IsOnRound, Leads}
 use Rattle.tree_search.specs.declared.piece.Step.{Step}
-use Rattle.tree_search.specs.declared.piece.Joint.{Joint}
-use Rattle.tree_search.specs.declared.piece.ExtraArc.{ExtraArc}
 use Rattle.tree_search.specs.declared.piece.ExtraArc.TheVariants as found
-use Rattle.tree_search.specs.declared.search.Search.{Search}
-use Rattle.tree_search.specs.Places.{numbers_in, number_at, AreEndsOf, AreJoints, IsTree}
-use Rattle.tree_search.specs.Search.{IsSearch, IsClosed}
-use Rattle.tree_search.specs.Finding.{Follows, first_node, way_of, IsFound, as_extra, starts_of}
+use Rattle.tree_search.specs.Places.{numbers_of_arcs, number_by_place}
+use Rattle.tree_search.specs.Finding.{Follows, first_node, way_of, as_extra}
 use Rattle.tree_search.specs.Outwards.{IsStepOver, LeadOn, AreInOrder, SearchesAreInOrder}
 use Rattle.tree_search.proofs.Placed.{hops_of}
 use Rattle.tree_search.proofs.Hanging
-use Rattle.tree_search.proofs.Hops.{HopsOn, far_nodes}
+use Rattle.tree_search.proofs.Hops.{HopsOn}
 
 -- all but the last
 abbrev front : List Step → List Step
@@ -41,7 +37,7 @@ in_earlier nodes arcs steps more a u v o = record { step = o.step; is_in = in_fr
 
 module _ (ends : ℕ → Ends) (nodes : List ℕ) (arcs : List (ℕ × Ends × Ratio)) (x : Extra) where
   abbrev own : List ℕ
-  own = numbers_in arcs
+  own = numbers_of_arcs arcs
 
   lead_more : (steps : List Step) (seen more : List ℕ) → ((v : ℕ) → IsIn v seen → IsIn v more) → LeadOn ends nodes arcs x seen steps → LeadOn ends nodes arcs x more steps
   lead_more [] seen more sub g = record {}
@@ -53,7 +49,7 @@ module _ (ends : ℕ → Ends) (nodes : List ℕ) (arcs : List (ℕ × Ends × R
 
   -- the steps of a search
   lead_of : (steps : List Step) (seen : List ℕ) → HopsOn ends own seen (hops_of nodes arcs steps)
-      → ((s : Step) → IsIn s steps → Leads ends own x (number_at arcs s.arc) (slice_index nodes s.near) (slice_index nodes s.far)) → LeadOn ends nodes arcs x seen steps
+      → ((s : Step) → IsIn s steps → Leads ends own x (number_by_place arcs s.arc) (slice_index nodes s.near) (slice_index nodes s.far)) → LeadOn ends nodes arcs x seen steps
   lead_of [] seen g l = record {}
   lead_of (s ∷ steps) seen g l = (g.0, l s (inl refl), lead_of steps (slice_index nodes s.far ∷ seen) g.4 (λ t i. l t (inr i)))
 
@@ -81,7 +77,7 @@ module _ (ends : ℕ → Ends) (nodes : List ℕ) (arcs : List (ℕ × Ends × R
       lead_more steps list seen (λ v i. elim (sub v i) [ inl j ↦ j | inr j ↦ elim j [ inl e ↦ subst (λ t. IsIn t seen) (sym (e ∙ c.2)) ik | inr z ↦ absurd z ] ]) g
   lead_round steps list g k u (s ∷ t ∷ cycle) seen f c ik iu on sub = (
     subst (λ z. IsIn z seen) (sym f.0) iu,
-    on (number_at arcs s.arc) (slice_index nodes s.near) (slice_index nodes s.far) (inl (refl, f.0, refl)),
+    on (number_by_place arcs s.arc) (slice_index nodes s.near) (slice_index nodes s.far) (inl (refl, f.0, refl)),
     lead_round steps list g k (slice_index nodes s.far) (t ∷ cycle) (slice_index nodes s.far ∷ seen) f.1 c.2 (inr ik) (inl refl) (λ a p q o. on a p q (inr o))
         (λ v i. elim (sub v i) [ inl j ↦ inl (inr j) | inr j ↦ elim j [ inl e ↦ inl (inl e) | inr m ↦ inr m ] ]),
   )

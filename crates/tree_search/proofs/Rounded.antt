@@ -1,7 +1,7 @@
 -- The cycle that the code finds is the extra arc of the piece.
 use Rattle.std.proofs.Common.{◌≡◌, ◌≢◌, ◌⊎◌, inl, inr, sym, ap, refl, ◌∙◌, subst, ℕ, zero, suc, ◌<◌, ◌≤◌, ◌+◌, List, [], ◌∷◌, ◌++◌, length, take, drop, slice_index, slice_index_or, arith}
 use Rattle.std.proofs.lemmas.List.{get_or-set_same, get_or-set_other, length-set}
-use Rattle.gain_graphs.specs.Arcs.{IsIn, AreDistinct}
+use Rattle.gain_graphs.specs.Arcs.{IsIn, AreDistinct, HasOneEnd}
 use Rattle.gain_graphs.specs.Cycles.{arcs_along, nodes_along, last_arc, GoesUp, Joins, HasArc, IsNoLoop, IsWay, IsLeastFirst}
 use Rattle.gain_graphs.proofs.Lists.{distinct_append, swap_once}
 use Rattle.np_frac.specs.Ratio.{Ratio}
@@ -10,7 +10,7 @@ use Rattle.np_model.specs.declared.arc.Ends.TheVariants as the
 use Rattle.np_model.specs.Basis.Graphs.{graph_ends, graph_of}
 use Rattle.tree_search.specs.declared.piece.Step.{Step}
 use Rattle.tree_search.specs.declared.piece.Joint.{Joint}
-use Rattle.tree_search.specs.Places.{numbers_in, number_at, ends_at, loose, AreEndsOf, HasOneEnd, IsJoint, AreJoints, IsTree}
+use Rattle.tree_search.specs.Places.{numbers_of_arcs, number_by_place, ends_by_place, loose, AreEndsOf, IsJoint, AreJoints, IsTree}
 use Rattle.tree_search.specs.Search.{JoinsAt, GoesOn, fars, step_arcs}
 use Rattle.tree_search.specs.Finding.{IsPlaced, Follows, first_node, way_of, cut_off, tail_at, head_at, flips, back_from, IsChain, last_step, StepsUp, IsTurned, IsRest, ClosesRound}
 use Rattle.tree_search.proofs.Trees
@@ -31,7 +31,7 @@ nat_or i j = grind arith
 
 module _ (nodes : List ℕ) (arcs : List (ℕ × Ends × Ratio)) (joints : List Joint) (are : AreJoints nodes arcs joints) (tree : IsTree nodes arcs) where
   abbrev own : List ℕ
-  own = numbers_in arcs
+  own = numbers_of_arcs arcs
 
   places_of : (u v : ℕ) (l : List Step) → IsChain joints u l v → (s : Step) → IsIn s l → IsPlaced nodes arcs s
   places_of u v [] c s i = absurd i
@@ -43,7 +43,7 @@ module _ (nodes : List ℕ) (arcs : List (ℕ × Ends × Ratio)) (joints : List 
   nodes_below u v (t ∷ l) c w (inl e) = subst (λ n. n < length nodes) (sym e) (Placed.below_nodes nodes arcs joints are t.arc t.near t.far c.1).1
   nodes_below u v (t ∷ l) c w (inr i) = nodes_below t.far v l c.3 w i
 
-  arc_of : (l : List Step) (b : ℕ) → IsIn b (arcs_along (way_of nodes arcs l)) → (s : Step) × IsIn s l × (b ≡ number_at arcs s.arc)
+  arc_of : (l : List Step) (b : ℕ) → IsIn b (arcs_along (way_of nodes arcs l)) → (s : Step) × IsIn s l × (b ≡ number_by_place arcs s.arc)
   arc_of [] b i = absurd i
   arc_of (s ∷ l) b (inl e) = (s, inl refl, e)
   arc_of (s ∷ l) b (inr i) = let r = arc_of l b i in (r.0, inr r.1, r.2)
@@ -66,7 +66,7 @@ module _ (nodes : List ℕ) (arcs : List (ℕ × Ends × Ratio)) (joints : List 
   arcs_once : (l : List Step) → ((s : Step) → IsIn s l → IsPlaced nodes arcs s) → AreDistinct (step_arcs l) → AreDistinct (arcs_along (way_of nodes arcs l))
   arcs_once [] p d = record {}
   arcs_once (s ∷ l) p d = (
-    (λ i. let r = arc_of l (number_at arcs s.arc) i in
+    (λ i. let r = arc_of l (number_by_place arcs s.arc) i in
         d.0 (subst (λ t. IsIn t (step_arcs l)) (sym (Trees.one_number nodes arcs tree s.arc r.0.arc (p s (inl refl)).0 (p r.0 (inr r.1)).0 r.2)) (arc_in l r.0 r.1))),
     arcs_once l (λ t i. p t (inr i)) d.1,
   )
@@ -79,7 +79,7 @@ module _ (nodes : List ℕ) (arcs : List (ℕ × Ends × Ratio)) (joints : List 
     nodes_once l (λ t i. p t (inr i)) d.1,
   )
 
-  last_number : (a : ℕ) (l : List Step) → last_arc (number_at arcs a) (way_of nodes arcs l) ≡ number_at arcs (last_step a l)
+  last_number : (a : ℕ) (l : List Step) → last_arc (number_by_place arcs a) (way_of nodes arcs l) ≡ number_by_place arcs (last_step a l)
   last_number a [] = refl
   last_number a (s ∷ l) = last_number s.arc l
 
@@ -89,7 +89,7 @@ module _ (nodes : List ℕ) (arcs : List (ℕ × Ends × Ratio)) (joints : List 
 
   goes_up : (l : List Step) → ((s : Step) → IsIn s l → IsPlaced nodes arcs s) → StepsUp l → GoesUp (way_of nodes arcs l)
   goes_up [] p h = h
-  goes_up (s ∷ l) p h = subst (λ n. number_at arcs s.arc < n) (sym (last_number s.arc l)) (Trees.ascending_numbers nodes arcs tree s.arc (last_step s.arc l) h (last_below s.arc l (p s (inl refl)).0 (λ t i. p t (inr i))))
+  goes_up (s ∷ l) p h = subst (λ n. number_by_place arcs s.arc < n) (sym (last_number s.arc l)) (Trees.ascending_numbers nodes arcs tree s.arc (last_step s.arc l) h (last_below s.arc l (p s (inl refl)).0 (λ t i. p t (inr i))))
 
   follows : (u v : ℕ) (l : List Step) → IsChain joints u l v → Follows nodes (slice_index nodes u) l
   follows u v [] c = record {}
@@ -122,7 +122,7 @@ module _ (nodes : List ℕ) (arcs : List (ℕ × Ends × Ratio)) (joints : List 
 
   -- ---- the round that the arc left over closes
 
-  module _ (n arc : ℕ) (rest : IsRest joints n arc) (links : (i : ℕ) → i < length arcs → ¬ HasOneEnd (ends_at arcs i)) (round : List Step) (closed : ClosesRound joints n arc round) where
+  module _ (n arc : ℕ) (rest : IsRest joints n arc) (links : (i : ℕ) → i < length arcs → ¬ HasOneEnd (graph_ends (ends_by_place arcs i))) (round : List Step) (closed : ClosesRound joints n arc round) where
     abbrev f : ℕ
     f = tail_at joints arc
 
@@ -163,9 +163,9 @@ module _ (nodes : List ℕ) (arcs : List (ℕ × Ends × Ratio)) (joints : List 
     ends_apart : f ≢ t
     ends_apart e =
         let inside : arc < length arcs = subst (λ n. arc < n) are.long rest.inside in
-        go (ends_at arcs arc) (are.each arc inside) (links arc inside) (Trees.no_loop nodes arcs tree arc inside)
+        go (ends_by_place arcs arc) (are.each arc inside) (links arc inside) (Trees.no_loop nodes arcs tree arc inside)
       where
-        go : (y : Ends) → IsJoint nodes y (slice_index_or joints arc loose) → ¬ HasOneEnd y → IsNoLoop (graph_ends y) → ⊥
+        go : (y : Ends) → IsJoint nodes y (slice_index_or joints arc loose) → ¬ HasOneEnd (graph_ends y) → IsNoLoop (graph_ends y) → ⊥
         go (the.Link from to gain) j n s = s (sym j.0.1 ∙ ap (λ z. slice_index nodes z) e ∙ j.1.1)
         go (the.Drain at) j n s = n (record {})
         go (the.Feed at) j n s = n (record {})
@@ -264,9 +264,9 @@ module _ (nodes : List ℕ) (arcs : List (ℕ × Ends × Ratio)) (joints : List 
     closes u v (s ∷ l) c =
         let inside : s.arc < length arcs = subst (λ n. s.arc < n) are.long c.1.0 in (
           Trees.number_in arcs s.arc inside,
-          subst (λ t. Joins (graph_of ends (number_at arcs s.arc)) (slice_index nodes t) (slice_index nodes s.far)) c.0
+          subst (λ t. Joins (graph_of ends (number_by_place arcs s.arc)) (slice_index nodes t) (slice_index nodes s.far)) c.0
               (subst (λ e. Joins (graph_ends e) (slice_index nodes s.near) (slice_index nodes s.far)) (sym (Trees.ends_is ends arcs of s.arc inside))
-              (Placed.joint_joins nodes (ends_at arcs s.arc) (slice_index_or joints s.arc loose) s.near s.far (are.each s.arc inside) c.1.1 c.2)),
+              (Placed.joint_joins nodes (ends_by_place arcs s.arc) (slice_index_or joints s.arc loose) s.near s.far (are.each s.arc inside) c.1.1 c.2)),
           closes s.far v l c.3,
         )
 

@@ -1,5 +1,5 @@
 -- A star with a drain at its middle is a quasi-tree.
-use Rattle.std.proofs.Common.{◌≡◌, ◌≢◌, ◌⊎◌, inl, inr, sym, refl, subst, ℕ, zero, suc, ◌+◌, ◌<◌, List, [], ◌∷◌, map, length, slice_index, arith}
+use Rattle.std.proofs.Common.{◌≡◌, ◌≢◌, inl, inr, sym, refl, subst, ℕ, zero, suc, ◌+◌, ◌<◌, List, [], ◌∷◌, map, slice_index, arith}
 use Rattle.gain_graphs.specs.Arcs.{IsIn, AreDistinct, Along, Against, AreJoined}
 use Rattle.gain_graphs.specs.Arcs as graph
 use Rattle.gain_graphs.specs.Cycles.{IsNoLoop}
@@ -9,7 +9,7 @@ use Rattle.np_frac.specs.Ratio.{Ratio, zero_ratio}
 use Rattle.np_model.specs.declared.arc.Ends.{Ends}
 use Rattle.np_model.specs.declared.arc.Ends.TheVariants.{Link, Drain}
 use Rattle.np_model.specs.Basis.Graphs.{ratios, graph_ends}
-use Rattle.tree_search.specs.Places.{ends_in, IsTree}
+use Rattle.tree_search.specs.Places.{ends_of_arcs, IsTree}
 
 module _ (one other : Ratio) (apart : one ≢ zero_ratio) where
   abbrev nodes : List ℕ
@@ -19,7 +19,7 @@ module _ (one other : Ratio) (apart : one ≢ zero_ratio) where
   basics = (1, Link 5 2 one, other) ∷ (4, Drain 5, other) ∷ (7, Link 6 5 one, other) ∷ (8, Link 5 9 one, other) ∷ []
 
   abbrev arcs : List (graph.Ends Ratio)
-  arcs = map graph_ends (ends_in basics)
+  arcs = map graph_ends (ends_of_arcs basics)
 
   nodes_ascend : (k : ℕ) → k + 1 < 4 → slice_index nodes k < slice_index nodes (k + 1)
   nodes_ascend zero h = omega arith

@@ -1,7 +1,9 @@
 //! The extra arc of a piece.
 
 ghost use Rattle.std.specs.Prelude.{◌≡◌, ◌<◌, ◌≤◌, ◌^◌, ◌↔◌, ℕ, length, true, IfOk};
-ghost use Rattle.tree_search.specs.Places.{nodes_in, ends_at, HasOneEnd, AreJoints, IsTree};
+ghost use Rattle.gain_graphs.specs.Arcs.{HasOneEnd};
+ghost use Rattle.np_model.specs.Basis.Graphs.{graph_ends};
+ghost use Rattle.tree_search.specs.Places.{numbers_of_nodes, ends_by_place, AreJoints, IsTree};
 ghost use Rattle.tree_search.specs.Search.{AreBelow, IsIncidence};
 ghost use Rattle.tree_search.specs.Finding.{cut_off, IsRest, ClosesRound, IsCycleOf, IsFound, CanBeginAt};
 
@@ -15,7 +17,7 @@ use std::alloc::Global;
 
 // Whether an arc has one end.
 fn has_one_end(ends: Ends) -> bool
-    ensures { (result ≡ true) ↔ HasOneEnd ends }
+    ensures { (result ≡ true) ↔ HasOneEnd (graph_ends ends) }
 {
     match ends {
         Ends::Link { .. } => false,
@@ -27,8 +29,8 @@ fn has_one_end(ends: Ends) -> bool
 // The place of the first arc with one end, or the number of arcs.
 fn one_ended(basics: &[(u32, Ends, Frac)]) -> usize
     ensures within { result ≤ length basics.now }
-    ensures one { result < length basics.now → HasOneEnd (ends_at basics.now result) }
-    ensures none { (i : ℕ) → i < result → ¬ HasOneEnd (ends_at basics.now i) }
+    ensures one { result < length basics.now → HasOneEnd (graph_ends (ends_by_place basics.now result)) }
+    ensures none { (i : ℕ) → i < result → ¬ HasOneEnd (graph_ends (ends_by_place basics.now i)) }
 {
     let mut i = 0;
     while i < basics.len() {
@@ -124,10 +126,10 @@ pub fn find_extra(
     incidence: &Incidence,
 ) -> Result<ExtraArc, Memory>
     requires few { length nodes.now < 2 ^ 32 }
-    requires tree { IsTree (nodes_in nodes.now) basics.now }
-    requires joints { AreJoints (nodes_in nodes.now) basics.now joints.now }
+    requires tree { IsTree (numbers_of_nodes nodes.now) basics.now }
+    requires joints { AreJoints (numbers_of_nodes nodes.now) basics.now joints.now }
     requires lists { IsIncidence joints.now (length nodes.now) incidence.now }
-    ensures found { IfOk result (λ extra. IsFound (nodes_in nodes.now) basics.now joints.now extra) }
+    ensures found { IfOk result (λ extra. IsFound (numbers_of_nodes nodes.now) basics.now joints.now extra) }
     ensures begins { IfOk result (λ extra. CanBeginAt (length nodes.now) joints.now extra) }
 {
     let one = one_ended(basics);

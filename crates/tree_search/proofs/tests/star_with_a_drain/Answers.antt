@@ -1,4 +1,4 @@
-use Rattle.std.proofs.Common.{◌≡◌, ◌∙◌, sym, refl}
+use Rattle.std.proofs.Common.{◌∙◌, sym}
 use Rattle.np_frac.proofs.Field.{one-zero}
 use Rattle.tree_search.proofs.Starred.{star}
 use Rattle.tree_search.proofs.tests.star_with_a_drain.Goals as goal
