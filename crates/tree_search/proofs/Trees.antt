@@ -9,8 +9,11 @@ use Rattle.gain_graphs.specs.QuasiTrees.{IsQuasiTree, LiesIn}
 use Rattle.gain_graphs.proofs.Lists.{in_map, length_map}
 use Rattle.np_frac.specs.Ratio.{Ratio}
 use Rattle.np_model.specs.declared.arc.Ends.{Ends}
+use Rattle.np_model.specs.declared.arc.Ends.TheVariants.{Link, Drain, Feed}
+use Rattle.np_model.specs.Basis.Pieces.{PieceLists, HasShape}
 use Rattle.np_model.specs.Basis.Graphs.{ratios, graph_ends, graph_of}
-use Rattle.tree_search.specs.Places.{numbers_of_nodes, numbers_of_arcs, ends_of_arcs, blank, number_by_place, ends_by_place, AreEndsOf, IsPlaceOf, HasPlace, IsTree}
+use Rattle.tree_search.specs.Places.{numbers_of_nodes, numbers_of_arcs, ends_of_arcs, blank, number_by_place, ends_by_place, AreEndsOf, IsPlaceOf, HasPlace, IsTree, EndsHavePlaces}
+use Rattle.tree_search.proofs.Searches.{default}
 
 order : (a b : ℕ) → (a < b) ⊎ ((a ≡ b) ⊎ (b < a))
 order a b = grind arith
@@ -119,3 +122,25 @@ module _ (nodes : List ℕ) (arcs : List (ℕ × Ends × Ratio)) (tree : IsTree 
 
     pub lies : (a : ℕ) → IsIn a (numbers_of_arcs arcs) → LiesIn ratios nodes (graph_of ends a)
     lies a i = shape.ends_inside (graph_of ends a) (in_map (graph_of ends) a (numbers_of_arcs arcs) i)
+
+-- ---- what callers have at hand
+
+-- the lists of a piece
+pub shaped : (piece : PieceLists) → HasShape piece → ((b : ℕ × Ends × Ratio) → IsIn b piece.basics → IsNoLoop (graph_ends b.1)) → IsTree (numbers_of_nodes piece.nodes) piece.basics
+shaped piece shape no_loops = record { nodes_ascend = shape.nodes_ascend; basics_ascend = shape.basics_ascend; quasi_tree = shape.quasi_tree; no_loops = no_loops }
+
+has_place : (nodes : List ℕ) (v : ℕ) → IsIn v nodes → HasPlace nodes v
+has_place [] v i = absurd i
+has_place (u ∷ nodes) v (inl e) = (zero, (omega arith, sym e))
+has_place (u ∷ nodes) v (inr i) = let r = has_place nodes v i in (suc r.0, (omega (arith, r.1.0), r.1.1))
+
+-- the ends of the arcs of a quasi-tree have places
+pub ends_have_places : (nodes : List ℕ) (arcs : List (ℕ × Ends × Ratio)) → IsTree nodes arcs → (k : ℕ) (d : ℕ × Ends × Ratio) → k < length arcs → EndsHavePlaces nodes (slice_index_or arcs k d).1
+ends_have_places nodes arcs tree k d h =
+    subst (λ (b : ℕ × Ends × Ratio). EndsHavePlaces nodes b.1) (default arcs k blank d h)
+    (go (ends_by_place arcs k) (tree.quasi_tree.ends_inside (graph_ends (ends_by_place arcs k)) (in_map graph_ends (ends_by_place arcs k) (ends_of_arcs arcs) (in_map (λ b. b.1) (slice_index_or arcs k blank) arcs (arc_in arcs k h)))))
+  where
+    go : (e : Ends) → LiesIn ratios nodes (graph_ends e) → EndsHavePlaces nodes e
+    go (Link from to gain) l = (has_place nodes from l.0, has_place nodes to l.1)
+    go (Drain at) l = has_place nodes at l
+    go (Feed at) l = has_place nodes at l
