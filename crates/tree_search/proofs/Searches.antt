@@ -234,3 +234,13 @@ take_all [] zero h = refl
 take_all [] (suc n) h = refl
 take_all (x ∷ xs) zero h = absurd (omega arith)
 take_all (x ∷ xs) (suc n) h = ap (λ t. x ∷ t) (take_all xs n (omega arith))
+
+-- the steps of a search lie in its lists
+pub steps_placed : (joints : List Joint) (n : ℕ) → ((i : ℕ) (d : Joint) → i < length joints → ((slice_index_or joints i d).from < n) × ((slice_index_or joints i d).to < n)) → (seen : List ℕ) (steps : List Step) → GoesOn joints seen steps
+    → (k : ℕ) (d : Step) → k < length steps → ((slice_index_or steps k d).arc < length joints) × ((slice_index_or steps k d).near < n) × ((slice_index_or steps k d).far < n)
+steps_placed joints n h seen [] g k d l = absurd (omega arith)
+steps_placed joints n h seen (s ∷ steps) g zero d l = (g.2.0, joins_below joints n s.arc s.far s.near h (turned g.2), joins_below joints n s.arc s.near s.far h g.2)
+  where
+    turned : JoinsAt joints s.arc s.near s.far → JoinsAt joints s.arc s.far s.near
+    turned j = (j.0, elim j.1 [ inl m ↦ inr m | inr m ↦ inl m ])
+steps_placed joints n h seen (s ∷ steps) g (suc k) d l = steps_placed joints n h (s.far ∷ seen) steps g.3 k d (omega arith)

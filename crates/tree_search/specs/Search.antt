@@ -64,6 +64,10 @@ pub record IsSearch (joints : List Joint) (n : ℕ) (starts : List ℕ) (s : Sea
   pub goes : GoesOn joints starts s.steps.items
   pub below : (u : ℕ) → IsIn u s.queue.items → u < n
 
+-- the steps lie in so many arcs and nodes
+abbrev pub AreStepsBelow : ℕ → ℕ → List Step → Type 0
+AreStepsBelow arcs n steps = All (λ s. (s.arc < arcs) × (s.near < n) × (s.far < n)) steps
+
 -- all arcs at nodes of the list lead to nodes of the list
 abbrev pub IsClosed : List Joint → List ℕ → Type 0
 IsClosed joints queue = (a u v : ℕ) → IsIn u queue → JoinsAt joints a u v → IsIn v queue

@@ -1,11 +1,11 @@
 use Rattle.std.proofs.Common.{◌<◌, ℕ, List, length, sym, subst, slice_index_or}
 use Rattle.tree_search.specs.declared.piece.Step.{Step}
-use Rattle.tree_search.proofs.Rests.{steps_below, rest_is}
+use Rattle.tree_search.proofs.Rests.{rest_is}
 use Rattle.tree_search.proofs.find.rest_of.Goals as goal
 
 pub marks_of-requires : goal.marks_of-requires
 marks_of-requires c = record {
-  placed = subst (λ (l : List Step). (k : ℕ) (d : Step) → k < length l → (slice_index_or l k d).arc < length c.args.joints.now) (sym c.as_slice.ensures.value) (steps_below c.args.joints.now _ _ c.in_ok-search.ensures.found.goes);
+  placed = subst (λ (l : List Step). (k : ℕ) (d : Step) → k < length l → (slice_index_or l k d).arc < length c.args.joints.now) (sym c.as_slice.ensures.value) (λ k d h. (c.in_ok-search.ensures.placed k d h).0);
 }
 
 pub returns : goal.returns
