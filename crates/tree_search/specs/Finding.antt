@@ -1,4 +1,4 @@
--- The extra arc of a piece, by places: how it is found, and what is found.
+-- The extra arc of a piece, by places: how it is found, and what is found. (This project's own.)
 use Rattle.std.specs.Prelude.{◌≡◌, ◌≢◌, ◌<◌, ◌≤◌, ◌==◌, ℕ, ◌⊎◌, ◌+◌, List, [], ◌∷◌, ◌++◌, length, take, drop, reverse, slice_set, slice_index, slice_index_or, if◌then◌else◌, ⊤}
 use Rattle.std.specs.List.{All}
 use Rattle.gain_graphs.specs.Arcs.{IsIn, AreDistinct, HasOneEnd}

@@ -1,4 +1,4 @@
--- What a search from the nodes of the extra arc finds: all that hangs off it, outwards.
+-- What a search from the nodes of the extra arc finds: all that hangs off it, outwards. (This project's own.)
 use Rattle.std.specs.Prelude.{◌≡◌, ◌⊎◌, ◌-◌, ℕ, List, [], ◌∷◌, ◌++◌, length, take, slice_index, ⊤}
 use Rattle.gain_graphs.specs.Arcs.{IsIn}
 use Rattle.np_frac.specs.Ratio.{Ratio}

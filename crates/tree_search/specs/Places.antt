@@ -1,4 +1,4 @@
--- A piece by places: an ascending list of nodes, and an ascending list of basic arcs with their ends.
+-- A piece by places: an ascending list of nodes, and an ascending list of basic arcs with their ends. (This project's own.)
 use Rattle.std.specs.Prelude.{◌≡◌, ◌↔◌, ◌<◌, ℕ, List, map, length, slice_index, slice_index_or}
 use Rattle.std.specs.List.Sorted.{IsStrictlyIncreasing}
 use Rattle.gain_graphs.specs.Arcs.{IsIn}

@@ -1,4 +1,4 @@
--- A search over arcs by places, away from some nodes.
+-- A search over arcs by places, away from some nodes. (This project's own.)
 use Rattle.std.specs.Prelude.{◌≡◌, ◌⊎◌, ◌↔◌, ◌<◌, ◌≤◌, ℕ, suc, true, false, List, [], ◌∷◌, ◌++◌, length, slice_index, slice_index_or, ⊤}
 use Rattle.std.specs.List.{All}
 use Rattle.gain_graphs.specs.Arcs.{IsIn}
