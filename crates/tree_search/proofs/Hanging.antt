@@ -1,5 +1,5 @@
 -- What a search from the nodes of the extra arc finds.
-use Rattle.std.proofs.Common.{◌≡◌, ◌≢◌, ◌⊎◌, inl, inr, sym, ap, ap₂, refl, ◌∙◌, subst, ℕ, zero, suc, ◌<◌, List, [], ◌∷◌, ◌++◌, map, length, get_or, slice_index, slice_index_or, arith}
+use Rattle.std.proofs.Common.{◌≡◌, ◌⊎◌, inl, inr, sym, ap, refl, ◌∙◌, subst, ℕ, zero, suc, ◌<◌, List, [], ◌∷◌, map, length, slice_index, slice_index_or, arith}
 use Rattle.gain_graphs.specs.Arcs.{IsIn}
 use Rattle.gain_graphs.specs.Cycles.{nodes_along}
 use Rattle.gain_graphs.specs.QuasiTrees.{IsQuasiTree, LiesIn}
@@ -7,15 +7,15 @@ use Rattle.gain_graphs.proofs.Lists.{in_map, in_map_of}
 use Rattle.np_frac.specs.Ratio.{Ratio}
 use Rattle.np_model.specs.declared.arc.Ends.{Ends}
 use Rattle.np_model.specs.Basis.Graphs.{ratios, graph_of}
-use Rattle.np_model.specs.Rows.Extra.{Extra, root, extra_arcs, extra_nodes, IsExtra, Hangs}
+use Rattle.np_model.specs.Rows.Extra.{Extra, root, extra_nodes, IsExtra, Hangs}
 use Rattle.tree_search.specs.declared.piece.Step.{Step}
 use Rattle.tree_search.specs.declared.piece.Joint.{Joint}
 use Rattle.tree_search.specs.declared.piece.ExtraArc.{ExtraArc}
 use Rattle.tree_search.specs.declared.piece.ExtraArc.TheVariants as found
 use Rattle.tree_search.specs.declared.search.Search.{Search}
-use Rattle.tree_search.specs.Places.{numbers_in, number_at, loose, AreEndsOf, AreJoints, StandsAt, ArePlaces, IsTree}
-use Rattle.tree_search.specs.Search.{GoesOn, IsSearch, IsClosed, fars}
-use Rattle.tree_search.specs.Finding.{IsPlaced, IsLaidOut, IsFound, as_extra, starts_of, way_of}
+use Rattle.tree_search.specs.Places.{numbers_of_arcs, number_by_place, loose, AreEndsOf, AreJoints, IsPlaceOf, ArePlaces, IsTree}
+use Rattle.tree_search.specs.Search.{IsSearch, IsClosed, fars}
+use Rattle.tree_search.specs.Finding.{IsLaidOut, IsFound, as_extra, starts_of, way_of}
 use Rattle.tree_search.specs.Outwards.{IsStepOver, AreOutwards, SearchesGoOutwards}
 use Rattle.tree_search.proofs.Trees
 use Rattle.tree_search.proofs.Placed
@@ -33,12 +33,12 @@ places_of nodes arcs joints are (found.OneEnd arc) laid v = (
 places_of nodes arcs joints are (found.Round cycle) laid v = (to cycle.items (λ i d h. (laid.1 i d h).2), from cycle.items)
   where
     to : (steps : List Step) → ((i : ℕ) (d : Step) → i < length steps → (slice_index_or steps i d).far < length nodes) → IsIn v (nodes_along (way_of nodes arcs steps))
-        → (p : ℕ) × IsIn p (fars steps) × StandsAt nodes v p
+        → (p : ℕ) × IsIn p (fars steps) × IsPlaceOf nodes v p
     to [] all i = absurd i
     to (s ∷ steps) all (inl e) = (s.far, inl refl, (all zero s (omega arith), sym e))
     to (s ∷ steps) all (inr i) = let r = to steps (λ k d h. all (suc k) d (omega arith)) i in (r.0, inr r.1, r.2)
 
-    from : (steps : List Step) → ((p : ℕ) × IsIn p (fars steps) × StandsAt nodes v p) → IsIn v (nodes_along (way_of nodes arcs steps))
+    from : (steps : List Step) → ((p : ℕ) × IsIn p (fars steps) × IsPlaceOf nodes v p) → IsIn v (nodes_along (way_of nodes arcs steps))
     from [] r = absurd r.1
     from (s ∷ steps) r = elim r.1 [ inl e ↦ inl (sym r.2.1 ∙ ap (λ t. slice_index nodes t) e) | inr i ↦ inr (from steps (r.0, i, r.2)) ]
 
@@ -48,34 +48,34 @@ module _ (nodes : List ℕ) (arcs : List (ℕ × Ends × Ratio)) (joints : List 
   x = as_extra nodes arcs joints extra
 
   abbrev own : List ℕ
-  own = numbers_in arcs
+  own = numbers_of_arcs arcs
 
   abbrev hops : List Hop
   hops = hops_of nodes arcs search.steps.items
 
-  places : ArePlaces nodes (starts_of joints extra) (extra_nodes x)
+  pub places : ArePlaces nodes (starts_of joints extra) (extra_nodes x)
   places = places_of nodes arcs joints are extra is_found.laid_out
 
-  goes : Hops.HopsOn ends own (extra_nodes x) hops
+  pub goes : Hops.HopsOn ends own (extra_nodes x) hops
   goes = Placed.goes nodes arcs joints are tree ends of search.steps.items (starts_of joints extra) (extra_nodes x) places is_search.goes
 
-  is_extra : IsExtra ends own x
+  pub is_extra : IsExtra ends own x
   is_extra = is_found.is_extra ends of
 
-  shape : IsQuasiTree ratios nodes (map (graph_of ends) own)
+  pub shape : IsQuasiTree ratios nodes (map (graph_of ends) own)
   shape = Trees.shape nodes arcs tree ends of
 
-  lies : (a : ℕ) → IsIn a own → LiesIn ratios nodes (graph_of ends a)
+  pub lies : (a : ℕ) → IsIn a own → LiesIn ratios nodes (graph_of ends a)
   lies = Trees.lies nodes arcs tree ends of
 
-  all : (v : ℕ) → IsIn v nodes → IsIn v (extra_nodes x) ⊎ IsIn v (far_nodes hops)
-  all = Placed.all_nodes nodes arcs joints are tree ends of (starts_of joints extra) (extra_nodes x) search.steps.items search.queue.items is_search.queued places closed
+  pub all : (v : ℕ) → IsIn v nodes → IsIn v (extra_nodes x) ⊎ IsIn v (far_nodes hops)
+  all = Placed.all_nodes nodes arcs joints are tree (starts_of joints extra) (extra_nodes x) search.steps.items search.queue.items is_search.queued places closed
       (root x) ((Hops.extra_is ends nodes own x shape lies is_extra).inside) (Hops.root_is_in ends own x is_extra)
 
   hop_in : (s : Step) → IsIn s search.steps.items → IsIn (as_hop nodes arcs s) hops
   hop_in s i = in_map (as_hop nodes arcs) s search.steps.items i
 
-  over : (a u v : ℕ) → Hangs ends own x a u v → IsStepOver nodes arcs search.steps.items a u v
+  pub over : (a u v : ℕ) → Hangs ends own x a u v → IsStepOver nodes arcs search.steps.items a u v
   over a u v h =
       let r = Hops.hangs_hop ends nodes own x shape lies is_extra hops goes all a u v h in
       let s = in_map_of (as_hop nodes arcs) r.0 search.steps.items r.1 in
@@ -87,12 +87,12 @@ module _ (nodes : List ℕ) (arcs : List (ℕ × Ends × Ratio)) (joints : List 
         far = sym (ap (λ (t : Hop). t.far) s.2) ∙ r.4;
       }
 
-  of_far : (steps : List Step) (v : ℕ) → IsIn v (far_nodes (hops_of nodes arcs steps)) → (s : Step) × IsIn s steps × (v ≡ slice_index nodes s.far)
+  pub of_far : (steps : List Step) (v : ℕ) → IsIn v (far_nodes (hops_of nodes arcs steps)) → (s : Step) × IsIn s steps × (v ≡ slice_index nodes s.far)
   of_far [] v i = absurd i
   of_far (s ∷ steps) v (inl e) = (s, inl refl, e)
   of_far (s ∷ steps) v (inr i) = let r = of_far steps v i in (r.0, inr r.1, r.2)
 
-  hang : (s : Step) → IsIn s search.steps.items → Hangs ends own x (number_at arcs s.arc) (slice_index nodes s.near) (slice_index nodes s.far)
+  pub hang : (s : Step) → IsIn s search.steps.items → Hangs ends own x (number_by_place arcs s.arc) (slice_index nodes s.near) (slice_index nodes s.far)
   hang s i = Hops.hangs ends nodes own x shape lies is_extra hops goes (as_hop nodes arcs s) (hop_in s i)
 
   pub outwards : AreOutwards ends nodes arcs x search.steps.items
@@ -105,7 +105,7 @@ module _ (nodes : List ℕ) (arcs : List (ℕ × Ends × Ratio)) (joints : List 
     ];
     reach = λ v i. elim (all v i) [
       | inl j ↦ inl j
-      | inr j ↦ let r = of_far search.steps.items v j in inr (number_at arcs r.0.arc, slice_index nodes r.0.near, subst (Hangs ends own x (number_at arcs r.0.arc) (slice_index nodes r.0.near)) (sym r.2) (hang r.0 r.1))
+      | inr j ↦ let r = of_far search.steps.items v j in inr (number_by_place arcs r.0.arc, slice_index nodes r.0.near, subst (Hangs ends own x (number_by_place arcs r.0.arc) (slice_index nodes r.0.near)) (sym r.2) (hang r.0 r.1))
     ];
     apart = λ a u v h.
         let s = over a u v h in
@@ -115,8 +115,8 @@ module _ (nodes : List ℕ) (arcs : List (ℕ × Ends × Ratio)) (joints : List 
         let p = Placed.placed nodes arcs joints are search.steps.items (starts_of joints extra) is_search.goes s i in
         let q = Placed.placed nodes arcs joints are search.steps.items (starts_of joints extra) is_search.goes t j in
         Placed.same_step s t (Trees.one_number nodes arcs tree s.arc t.arc p.0 q.0 (ap (λ (h : Hop). h.arc) same))
-            (Trees.one_place nodes tree.nodes_ascend s.near t.near p.1 q.1 (ap (λ (h : Hop). h.near) same))
-            (Trees.one_place nodes tree.nodes_ascend s.far t.far p.2 q.2 e);
+        (Trees.one_place nodes tree.nodes_ascend s.near t.near p.1 q.1 (ap (λ (h : Hop). h.near) same))
+        (Trees.one_place nodes tree.nodes_ascend s.far t.far p.2 q.2 e);
   }
 
 pub searches_go_outwards : SearchesGoOutwards

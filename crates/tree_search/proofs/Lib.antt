@@ -7,3 +7,7 @@ pub mod Outward
 pub mod Hops
 pub mod Placed
 pub mod Hanging
+pub mod Rounded
+pub mod Finds
+pub mod Starred
+pub mod Leading

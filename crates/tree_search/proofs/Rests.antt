@@ -1,5 +1,5 @@
 -- A search over all arcs of a piece leaves one over.
-use Rattle.std.proofs.Common.{◌≡◌, ◌≢◌, ◌⊎◌, ◌↔◌, inl, inr, sym, ap, refl, ◌∙◌, subst, ℕ, zero, suc, ◌<◌, ◌≤◌, ◌+◌, List, [], ◌∷◌, ◌++◌, length, slice_index_or, Bool, true, false, true≢false, arith}
+use Rattle.std.proofs.Common.{◌≡◌, ◌⊎◌, ◌↔◌, inl, inr, sym, ap, refl, ◌∙◌, subst, ℕ, suc, ◌<◌, ◌≤◌, List, [], ◌∷◌, length, slice_index_or, Bool, true, false, true≢false, arith}
 use Rattle.gain_graphs.specs.Arcs.{IsIn, AreDistinct}
 use Rattle.gain_graphs.proofs.Lists.{at_most}
 use Rattle.gain_graphs.proofs.Selected.{upto, upto_below, upto_once, length_upto}
@@ -9,11 +9,6 @@ use Rattle.tree_search.specs.declared.search.Search.{Search as TheSearch}
 use Rattle.tree_search.specs.Search.{JoinsAt, GoesOn, fars, step_arcs, IsSearch, IsClosed}
 use Rattle.tree_search.specs.Finding.{IsRest}
 use Rattle.tree_search.proofs.Searches.{queue_fits}
-
-pub steps_below : (joints : List Joint) (seen : List ℕ) (steps : List Step) → GoesOn joints seen steps → (k : ℕ) (d : Step) → k < length steps → (slice_index_or steps k d).arc < length joints
-steps_below joints seen [] g k d h = absurd (omega arith)
-steps_below joints seen (s ∷ steps) g zero d h = g.2.0
-steps_below joints seen (s ∷ steps) g (suc k) d h = steps_below joints (s.far ∷ seen) steps g.3 k d (omega arith)
 
 fresh : (joints : List Joint) (seen : List ℕ) (steps : List Step) → GoesOn joints seen steps → (b : ℕ) → IsIn b (step_arcs steps) → (u : ℕ) × (v : ℕ) × JoinsAt joints b u v × (¬ IsIn v seen)
 fresh joints seen [] g b i = absurd i

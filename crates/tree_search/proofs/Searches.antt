@@ -1,14 +1,14 @@
 -- A search goes on, and what it has seen when it ends.
-use Rattle.std.proofs.Common.{◌≡◌, ◌≢◌, ◌⊎◌, ◌↔◌, inl, inr, sym, ap, refl, ◌∙◌, subst, ap₂, ℕ, ◌<◌, ◌≤◌, suc, zero, ◌+◌, get_or, take, append-nil, length-append, List, [], ◌∷◌, ◌++◌, length, slice_index_or, slice_set, Bool, true, false, true≢false, append_assoc, arith}
+use Rattle.std.proofs.Common.{◌≡◌, ◌≢◌, ◌⊎◌, ◌↔◌, inl, inr, sym, ap, refl, ◌∙◌, subst, ℕ, ◌<◌, ◌≤◌, suc, zero, ◌+◌, get_or, take, append-nil, length-append, List, [], ◌∷◌, ◌++◌, length, slice_index_or, slice_set, Bool, true, false, true≢false, append_assoc, arith}
 use Rattle.std.proofs.lemmas.List.{get_or-set_same, get_or-set_other, length-set, get_or_append_left}
 use Rattle.gain_graphs.specs.Arcs.{IsIn, AreDistinct}
 use Rattle.gain_graphs.proofs.Lists.{in_front, in_back, in_append, at_most, distinct_append}
-use Rattle.gain_graphs.proofs.Selected.{upto, upto_holds, upto_once, length_upto}
+use Rattle.gain_graphs.proofs.Selected.{upto, upto_holds, length_upto}
 use Rattle.tree_search.specs.declared.piece.Step.{Step}
 use Rattle.tree_search.specs.declared.piece.Joint.{Joint}
 use Rattle.tree_search.specs.declared.search.Search.{Search as TheSearch}
 use Rattle.tree_search.specs.Places.{loose}
-use Rattle.tree_search.specs.Search.{AreBelow, JoinsAt, TouchesAt, IsFirstFrom, fars, GoesOn, IsSearch, IsClosed, AreNodesBelow, Grows, LeadsOn}
+use Rattle.tree_search.specs.Search.{JoinsAt, TouchesAt, IsFirstFrom, fars, GoesOn, IsSearch, IsClosed, AreNodesBelow, Grows, LeadsOn}
 
 pub fars_append : (v w : List Step) → fars (v ++ w) ≡ fars v ++ fars w
 fars_append [] w = refl
@@ -234,3 +234,13 @@ take_all [] zero h = refl
 take_all [] (suc n) h = refl
 take_all (x ∷ xs) zero h = absurd (omega arith)
 take_all (x ∷ xs) (suc n) h = ap (λ t. x ∷ t) (take_all xs n (omega arith))
+
+-- the steps of a search lie in its lists
+pub steps_placed : (joints : List Joint) (n : ℕ) → ((i : ℕ) (d : Joint) → i < length joints → ((slice_index_or joints i d).from < n) × ((slice_index_or joints i d).to < n)) → (seen : List ℕ) (steps : List Step) → GoesOn joints seen steps
+    → (k : ℕ) (d : Step) → k < length steps → ((slice_index_or steps k d).arc < length joints) × ((slice_index_or steps k d).near < n) × ((slice_index_or steps k d).far < n)
+steps_placed joints n h seen [] g k d l = absurd (omega arith)
+steps_placed joints n h seen (s ∷ steps) g zero d l = (g.2.0, joins_below joints n s.arc s.far s.near h (turned g.2), joins_below joints n s.arc s.near s.far h g.2)
+  where
+    turned : JoinsAt joints s.arc s.near s.far → JoinsAt joints s.arc s.far s.near
+    turned j = (j.0, elim j.1 [ inl m ↦ inr m | inr m ↦ inl m ])
+steps_placed joints n h seen (s ∷ steps) g (suc k) d l = steps_placed joints n h (s.far ∷ seen) steps g.3 k d (omega arith)

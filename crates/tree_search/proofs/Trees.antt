@@ -1,5 +1,5 @@
 -- What ascending lists and quasi-trees say of places.
-use Rattle.std.proofs.Common.{◌≡◌, ◌≢◌, ◌⊎◌, inl, inr, sym, ap, ap₂, refl, ◌∙◌, subst, ℕ, zero, suc, ◌<◌, ◌≤◌, ◌+◌, List, [], ◌∷◌, map, length, get_or, slice_index, slice_index_or, arith, lt_irrefl}
+use Rattle.std.proofs.Common.{◌≡◌, ◌⊎◌, inl, inr, sym, ap, ap₂, refl, ◌∙◌, subst, ℕ, zero, suc, ◌<◌, ◌≤◌, ◌+◌, List, [], ◌∷◌, map, length, slice_index, slice_index_or, arith}
 use Rattle.std.proofs.lemmas.List.{get_or-map}
 use Rattle.std.proofs.lemmas.List.Kept.{AllPairs-from_increasing}
 use Rattle.std.specs.List.Sorted.{IsStrictlyIncreasing}
@@ -9,8 +9,11 @@ use Rattle.gain_graphs.specs.QuasiTrees.{IsQuasiTree, LiesIn}
 use Rattle.gain_graphs.proofs.Lists.{in_map, length_map}
 use Rattle.np_frac.specs.Ratio.{Ratio}
 use Rattle.np_model.specs.declared.arc.Ends.{Ends}
+use Rattle.np_model.specs.declared.arc.Ends.TheVariants.{Link, Drain, Feed}
+use Rattle.np_model.specs.Basis.Pieces.{PieceLists, HasShape}
 use Rattle.np_model.specs.Basis.Graphs.{ratios, graph_ends, graph_of}
-use Rattle.tree_search.specs.Places.{nodes_in, numbers_in, ends_in, blank, number_at, ends_at, AreEndsOf, StandsAt, Stands, IsTree}
+use Rattle.tree_search.specs.Places.{numbers_of_nodes, numbers_of_arcs, ends_of_arcs, blank, number_by_place, ends_by_place, AreEndsOf, IsPlaceOf, HasPlace, IsTree, EndsHavePlaces}
+use Rattle.tree_search.proofs.Searches.{default}
 
 order : (a b : ℕ) → (a < b) ⊎ ((a ≡ b) ⊎ (b < a))
 order a b = grind arith
@@ -44,20 +47,20 @@ all_below xs up m v h b i l = let u : slice_index xs i ≤ slice_index xs m = at
 pub all_above : (xs : List ℕ) → IsStrictlyIncreasing xs → (m v : ℕ) → v ≤ slice_index xs m → (i : ℕ) → m ≤ i → i < length xs → v ≤ slice_index xs i
 all_above xs up m v b i l h = let u : slice_index xs m ≤ slice_index xs i = at_most_at xs up m i l h in omega (arith, u, b)
 
-pub met : (xs : List ℕ) → IsStrictlyIncreasing xs → (v low high : ℕ) → Stands xs v → high ≤ low → ((i : ℕ) → i < low → slice_index xs i < v) → ((i : ℕ) → high ≤ i → i < length xs → v ≤ slice_index xs i)
-    → StandsAt xs v low
+pub met : (xs : List ℕ) → IsStrictlyIncreasing xs → (v low high : ℕ) → HasPlace xs v → high ≤ low → ((i : ℕ) → i < low → slice_index xs i < v) → ((i : ℕ) → high ≤ i → i < length xs → v ≤ slice_index xs i)
+    → IsPlaceOf xs v low
 met xs up v low high s l below above = go (order s.0 low)
   where
-    go : (s.0 < low) ⊎ ((s.0 ≡ low) ⊎ (low < s.0)) → StandsAt xs v low
+    go : (s.0 < low) ⊎ ((s.0 ≡ low) ⊎ (low < s.0)) → IsPlaceOf xs v low
     go (inl h) = absurd (let u : slice_index xs s.0 < v = below s.0 h in let e : slice_index xs s.0 ≡ v = s.1.1 in omega (arith, u, e))
-    go (inr (inl h)) = subst (StandsAt xs v) h s.1
+    go (inr (inl h)) = subst (IsPlaceOf xs v) h s.1
     go (inr (inr h)) = absurd
         (let u : v ≤ slice_index xs low = above low l (omega (arith, h, s.1.0)) in
         let e : slice_index xs s.0 ≡ v = s.1.1 in
         let w : slice_index xs low < slice_index xs s.0 = ascends xs up low s.0 h s.1.0 in
         omega (arith, u, e, w))
 
-pub node_at : (nodes : List (ℕ × Ratio)) (i : ℕ) (d : ℕ × Ratio) → i < length nodes → slice_index (nodes_in nodes) i ≡ (slice_index_or nodes i d).0
+pub node_at : (nodes : List (ℕ × Ratio)) (i : ℕ) (d : ℕ × Ratio) → i < length nodes → slice_index (numbers_of_nodes nodes) i ≡ (slice_index_or nodes i d).0
 node_at nodes i d h = get_or-map (λ n. n.0) nodes i d 0 h
 
 -- ---- arcs by their places
@@ -67,41 +70,41 @@ arc_in [] i h = absurd (omega arith)
 arc_in (x ∷ arcs) zero h = inl refl
 arc_in (x ∷ arcs) (suc i) h = inr (arc_in arcs i (omega arith))
 
-pub number_in : (arcs : List (ℕ × Ends × Ratio)) (a : ℕ) → a < length arcs → IsIn (number_at arcs a) (numbers_in arcs)
+pub number_in : (arcs : List (ℕ × Ends × Ratio)) (a : ℕ) → a < length arcs → IsIn (number_by_place arcs a) (numbers_of_arcs arcs)
 number_in arcs a h = in_map (λ b. b.0) (slice_index_or arcs a blank) arcs (arc_in arcs a h)
 
-pub place_of : (arcs : List (ℕ × Ends × Ratio)) (n : ℕ) → IsIn n (numbers_in arcs) → (a : ℕ) × (a < length arcs) × (n ≡ number_at arcs a)
-place_of [] n i = absurd i
-place_of (x ∷ arcs) n (inl e) = (zero, omega arith, e)
-place_of (x ∷ arcs) n (inr i) = let r = place_of arcs n i in (suc r.0, omega (arith, r.1), r.2)
+pub place_in : (arcs : List (ℕ × Ends × Ratio)) (b : ℕ × Ends × Ratio) → IsIn b arcs → (a : ℕ) × (a < length arcs) × (b ≡ slice_index_or arcs a blank)
+place_in [] b i = absurd i
+place_in (x ∷ arcs) b (inl e) = (zero, omega arith, e)
+place_in (x ∷ arcs) b (inr i) = let r = place_in arcs b i in (suc r.0, omega (arith, r.1), r.2)
 
-number_is : (arcs : List (ℕ × Ends × Ratio)) (a : ℕ) → a < length arcs → slice_index (numbers_in arcs) a ≡ number_at arcs a
+number_is : (arcs : List (ℕ × Ends × Ratio)) (a : ℕ) → a < length arcs → slice_index (numbers_of_arcs arcs) a ≡ number_by_place arcs a
 number_is arcs a h = get_or-map (λ b. b.0) arcs a blank 0 h
 
-pub ends_is : (ends : ℕ → Ends) (arcs : List (ℕ × Ends × Ratio)) → AreEndsOf ends arcs → (a : ℕ) → a < length arcs → ends (number_at arcs a) ≡ ends_at arcs a
+pub ends_is : (ends : ℕ → Ends) (arcs : List (ℕ × Ends × Ratio)) → AreEndsOf ends arcs → (a : ℕ) → a < length arcs → ends (number_by_place arcs a) ≡ ends_by_place arcs a
 ends_is ends arcs of a h = of (slice_index_or arcs a blank) (arc_in arcs a h)
 
-pub same_graph : (ends : ℕ → Ends) (arcs : List (ℕ × Ends × Ratio)) → AreEndsOf ends arcs → map graph_ends (ends_in arcs) ≡ map (graph_of ends) (numbers_in arcs)
+pub same_graph : (ends : ℕ → Ends) (arcs : List (ℕ × Ends × Ratio)) → AreEndsOf ends arcs → map graph_ends (ends_of_arcs arcs) ≡ map (graph_of ends) (numbers_of_arcs arcs)
 same_graph ends [] of = refl
 same_graph ends (x ∷ arcs) of = ap₂ (λ y ys. y ∷ ys) (ap graph_ends (sym (of x (inl refl)))) (same_graph ends arcs (λ b i. of b (inr i)))
 
 -- ---- quasi-trees
 
 module _ (nodes : List ℕ) (arcs : List (ℕ × Ends × Ratio)) (tree : IsTree nodes arcs) where
-  pub ascending_numbers : (i j : ℕ) → i < j → j < length arcs → number_at arcs i < number_at arcs j
+  pub ascending_numbers : (i j : ℕ) → i < j → j < length arcs → number_by_place arcs i < number_by_place arcs j
   ascending_numbers i j l h =
-      let u : slice_index (numbers_in arcs) i < slice_index (numbers_in arcs) j = ascends (numbers_in arcs) tree.basics_ascend i j l (subst (λ n. j < n) (sym (length_map (λ b. b.0) arcs)) h) in
-      let p : slice_index (numbers_in arcs) i ≡ number_at arcs i = number_is arcs i (omega (arith, l, h)) in
-      let q : slice_index (numbers_in arcs) j ≡ number_at arcs j = number_is arcs j h in
+      let u : slice_index (numbers_of_arcs arcs) i < slice_index (numbers_of_arcs arcs) j = ascends (numbers_of_arcs arcs) tree.basics_ascend i j l (subst (λ n. j < n) (sym (length_map (λ b. b.0) arcs)) h) in
+      let p : slice_index (numbers_of_arcs arcs) i ≡ number_by_place arcs i = number_is arcs i (omega (arith, l, h)) in
+      let q : slice_index (numbers_of_arcs arcs) j ≡ number_by_place arcs j = number_is arcs j h in
       omega (arith, u, p, q)
 
-  pub one_number : (i j : ℕ) → i < length arcs → j < length arcs → number_at arcs i ≡ number_at arcs j → i ≡ j
-  one_number i j hi hj e = one_place (numbers_in arcs) tree.basics_ascend i j (subst (λ n. i < n) (sym (length_map (λ b. b.0) arcs)) hi) (subst (λ n. j < n) (sym (length_map (λ b. b.0) arcs)) hj)
+  pub one_number : (i j : ℕ) → i < length arcs → j < length arcs → number_by_place arcs i ≡ number_by_place arcs j → i ≡ j
+  one_number i j hi hj e = one_place (numbers_of_arcs arcs) tree.basics_ascend i j (subst (λ n. i < n) (sym (length_map (λ b. b.0) arcs)) hi) (subst (λ n. j < n) (sym (length_map (λ b. b.0) arcs)) hj)
       (number_is arcs i hi ∙ e ∙ sym (number_is arcs j hj))
 
   -- there are as many arcs as nodes, and some
   pub as_many : length arcs ≡ length nodes
-  as_many = sym (length_map (λ b. b.1) arcs) ∙ sym (length_map graph_ends (ends_in arcs)) ∙ tree.quasi_tree.as_many
+  as_many = sym (length_map (λ b. b.1) arcs) ∙ sym (length_map graph_ends (ends_of_arcs arcs)) ∙ tree.quasi_tree.as_many
 
   pub some_node : 0 < length nodes
   some_node = some nodes tree.quasi_tree.some_node.0 tree.quasi_tree.some_node.1
@@ -110,12 +113,34 @@ module _ (nodes : List ℕ) (arcs : List (ℕ × Ends × Ratio)) (tree : IsTree 
       some [] v i = absurd i
       some (u ∷ l) v i = omega arith
 
-  pub no_loop : (a : ℕ) → a < length arcs → IsNoLoop (graph_ends (ends_at arcs a))
+  pub no_loop : (a : ℕ) → a < length arcs → IsNoLoop (graph_ends (ends_by_place arcs a))
   no_loop a h = tree.no_loops (slice_index_or arcs a blank) (arc_in arcs a h)
 
   module _ (ends : ℕ → Ends) (of : AreEndsOf ends arcs) where
-    pub shape : IsQuasiTree ratios nodes (map (graph_of ends) (numbers_in arcs))
+    pub shape : IsQuasiTree ratios nodes (map (graph_of ends) (numbers_of_arcs arcs))
     shape = subst (IsQuasiTree ratios nodes) (same_graph ends arcs of) tree.quasi_tree
 
-    pub lies : (a : ℕ) → IsIn a (numbers_in arcs) → LiesIn ratios nodes (graph_of ends a)
-    lies a i = shape.ends_inside (graph_of ends a) (in_map (graph_of ends) a (numbers_in arcs) i)
+    pub lies : (a : ℕ) → IsIn a (numbers_of_arcs arcs) → LiesIn ratios nodes (graph_of ends a)
+    lies a i = shape.ends_inside (graph_of ends a) (in_map (graph_of ends) a (numbers_of_arcs arcs) i)
+
+-- ---- what callers have at hand
+
+-- the lists of a piece
+pub shaped : (piece : PieceLists) → HasShape piece → ((b : ℕ × Ends × Ratio) → IsIn b piece.basics → IsNoLoop (graph_ends b.1)) → IsTree (numbers_of_nodes piece.nodes) piece.basics
+shaped piece shape no_loops = record { nodes_ascend = shape.nodes_ascend; basics_ascend = shape.basics_ascend; quasi_tree = shape.quasi_tree; no_loops = no_loops }
+
+has_place : (nodes : List ℕ) (v : ℕ) → IsIn v nodes → HasPlace nodes v
+has_place [] v i = absurd i
+has_place (u ∷ nodes) v (inl e) = (zero, (omega arith, sym e))
+has_place (u ∷ nodes) v (inr i) = let r = has_place nodes v i in (suc r.0, (omega (arith, r.1.0), r.1.1))
+
+-- the ends of the arcs of a quasi-tree have places
+pub ends_have_places : (nodes : List ℕ) (arcs : List (ℕ × Ends × Ratio)) → IsTree nodes arcs → (k : ℕ) (d : ℕ × Ends × Ratio) → k < length arcs → EndsHavePlaces nodes (slice_index_or arcs k d).1
+ends_have_places nodes arcs tree k d h =
+    subst (λ (b : ℕ × Ends × Ratio). EndsHavePlaces nodes b.1) (default arcs k blank d h)
+    (go (ends_by_place arcs k) (tree.quasi_tree.ends_inside (graph_ends (ends_by_place arcs k)) (in_map graph_ends (ends_by_place arcs k) (ends_of_arcs arcs) (in_map (λ b. b.1) (slice_index_or arcs k blank) arcs (arc_in arcs k h)))))
+  where
+    go : (e : Ends) → LiesIn ratios nodes (graph_ends e) → EndsHavePlaces nodes e
+    go (Link from to gain) l = (has_place nodes from l.0, has_place nodes to l.1)
+    go (Drain at) l = has_place nodes at l
+    go (Feed at) l = has_place nodes at l

@@ -1,16 +1,17 @@
--- The extra arc of a piece, by places: how it is found, and what is found.
+-- The extra arc of a piece, by places: how it is found, and what is found. (This project's own.)
 use Rattle.std.specs.Prelude.{◌≡◌, ◌≢◌, ◌<◌, ◌≤◌, ◌==◌, ℕ, ◌⊎◌, ◌+◌, List, [], ◌∷◌, ◌++◌, length, take, drop, reverse, slice_set, slice_index, slice_index_or, if◌then◌else◌, ⊤}
 use Rattle.std.specs.List.{All}
-use Rattle.gain_graphs.specs.Arcs.{IsIn, AreDistinct}
+use Rattle.gain_graphs.specs.Arcs.{IsIn, AreDistinct, HasOneEnd}
 use Rattle.np_frac.specs.Ratio.{Ratio}
 use Rattle.np_model.specs.declared.arc.Ends.{Ends}
+use Rattle.np_model.specs.Basis.Graphs.{graph_ends}
 use Rattle.np_model.specs.Rows.Extra.{Extra, OneEnd, Round, IsExtra}
 use Rattle.tree_search.specs.declared.piece.Step.{Step}
 use Rattle.tree_search.specs.declared.piece.Joint.{Joint}
 use Rattle.tree_search.specs.declared.piece.ExtraArc.{ExtraArc}
 use Rattle.tree_search.specs.declared.piece.ExtraArc.TheVariants as found
 use Rattle.tree_search.specs.declared.search.Search.{Search}
-use Rattle.tree_search.specs.Places.{loose, number_at, ends_at, numbers_in, AreEndsOf, HasOneEnd}
+use Rattle.tree_search.specs.Places.{loose, number_by_place, ends_by_place, numbers_of_arcs, AreEndsOf}
 use Rattle.tree_search.specs.Search.{AreNodesBelow, JoinsAt, fars, step_arcs, IsSearch, IsClosed}
 
 -- ---- what is found
@@ -32,23 +33,23 @@ first_node nodes (s ∷ steps) = slice_index nodes s.near
 -- steps by numbers: each arc with the node that it leads to
 abbrev pub way_of : List ℕ → List (ℕ × Ends × Ratio) → List Step → List (ℕ × ℕ)
 way_of nodes basics [] = []
-way_of nodes basics (s ∷ steps) = (number_at basics s.arc, slice_index nodes s.far) ∷ way_of nodes basics steps
+way_of nodes basics (s ∷ steps) = (number_by_place basics s.arc, slice_index nodes s.far) ∷ way_of nodes basics steps
 
 -- the extra arc by numbers
 abbrev pub as_extra : List ℕ → List (ℕ × Ends × Ratio) → List Joint → ExtraArc → Extra
-as_extra nodes basics joints (found.OneEnd arc) = OneEnd (number_at basics arc) (slice_index nodes (slice_index_or joints arc loose).from)
+as_extra nodes basics joints (found.OneEnd arc) = OneEnd (number_by_place basics arc) (slice_index nodes (slice_index_or joints arc loose).from)
 as_extra nodes basics joints (found.Round cycle) = Round (first_node nodes cycle.items) (way_of nodes basics cycle.items)
 
 -- it lies in the lists: an arc with one end, or steps that follow one another and lead to no node twice
 abbrev pub IsLaidOut : List ℕ → List (ℕ × Ends × Ratio) → ExtraArc → Type 0
-IsLaidOut nodes basics (found.OneEnd arc) = (arc < length basics) × HasOneEnd (ends_at basics arc)
+IsLaidOut nodes basics (found.OneEnd arc) = (arc < length basics) × HasOneEnd (graph_ends (ends_by_place basics arc))
 IsLaidOut nodes basics (found.Round cycle) = (0 < length cycle.items) × All (λ step. IsPlaced nodes basics step) cycle.items
     × AreDistinct (fars cycle.items) × Follows nodes (first_node nodes cycle.items) cycle.items
 
 -- it is the extra arc of the piece
 pub record IsFound (nodes : List ℕ) (basics : List (ℕ × Ends × Ratio)) (joints : List Joint) (extra : ExtraArc) : Type 0 where
   pub laid_out : IsLaidOut nodes basics extra
-  pub is_extra : (ends : ℕ → Ends) → AreEndsOf ends basics → IsExtra ends (numbers_in basics) (as_extra nodes basics joints extra)
+  pub is_extra : (ends : ℕ → Ends) → AreEndsOf ends basics → IsExtra ends (numbers_of_arcs basics) (as_extra nodes basics joints extra)
 
 -- the places of its nodes
 abbrev pub starts_of : List Joint → ExtraArc → List ℕ
@@ -125,3 +126,11 @@ pub record ClosesRound (joints : List Joint) (n arc : ℕ) (round : List Step) :
   pub is_search : IsSearch (cut_off joints arc) n (tail_at joints arc ∷ []) search
   pub closed : IsClosed (cut_off joints arc) search.queue.items
   pub is : round ≡ back_from (reverse search.steps.items) (head_at joints arc) ++ record { arc = arc; near = tail_at joints arc; far = head_at joints arc } ∷ []
+
+-- the cycle that the arc left over closes, from its least node
+pub record IsCycleOf (joints : List Joint) (n : ℕ) (cycle : List Step) : Type 0 where
+  pub arc : ℕ
+  pub rest : IsRest joints n arc
+  pub round : List Step
+  pub closes : ClosesRound joints n arc round
+  pub turned : IsTurned round cycle

@@ -1,5 +1,5 @@
--- A search over arcs by places, away from some nodes.
-use Rattle.std.specs.Prelude.{◌≡◌, ◌⊎◌, ◌↔◌, ◌<◌, ◌≤◌, ℕ, suc, Bool, true, false, List, [], ◌∷◌, ◌++◌, length, slice_index, slice_index_or, ⊤}
+-- A search over arcs by places, away from some nodes. (This project's own.)
+use Rattle.std.specs.Prelude.{◌≡◌, ◌⊎◌, ◌↔◌, ◌<◌, ◌≤◌, ℕ, suc, true, false, List, [], ◌∷◌, ◌++◌, length, slice_index, slice_index_or, ⊤}
 use Rattle.std.specs.List.{All}
 use Rattle.gain_graphs.specs.Arcs.{IsIn}
 use Rattle.tree_search.specs.declared.piece.Step.{Step}
@@ -63,6 +63,10 @@ pub record IsSearch (joints : List Joint) (n : ℕ) (starts : List ℕ) (s : Sea
   pub queued : s.queue.items ≡ starts ++ fars s.steps.items
   pub goes : GoesOn joints starts s.steps.items
   pub below : (u : ℕ) → IsIn u s.queue.items → u < n
+
+-- the steps lie in so many arcs and nodes
+abbrev pub AreStepsBelow : ℕ → ℕ → List Step → Type 0
+AreStepsBelow arcs n steps = All (λ s. (s.arc < arcs) × (s.near < n) × (s.far < n)) steps
 
 -- all arcs at nodes of the list lead to nodes of the list
 abbrev pub IsClosed : List Joint → List ℕ → Type 0

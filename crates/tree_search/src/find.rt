@@ -1,9 +1,11 @@
 //! The extra arc of a piece.
 
 ghost use Rattle.std.specs.Prelude.{◌≡◌, ◌<◌, ◌≤◌, ◌^◌, ◌↔◌, ℕ, length, true, IfOk};
-ghost use Rattle.tree_search.specs.Places.{nodes_in, ends_at, HasOneEnd, AreJoints, IsTree};
+ghost use Rattle.gain_graphs.specs.Arcs.{HasOneEnd};
+ghost use Rattle.np_model.specs.Basis.Graphs.{graph_ends};
+ghost use Rattle.tree_search.specs.Places.{numbers_of_nodes, ends_by_place, AreJoints, IsTree};
 ghost use Rattle.tree_search.specs.Search.{AreBelow, IsIncidence};
-ghost use Rattle.tree_search.specs.Finding.{cut_off, IsRest, ClosesRound, IsFound, CanBeginAt};
+ghost use Rattle.tree_search.specs.Finding.{cut_off, IsRest, ClosesRound, IsCycleOf, IsFound, CanBeginAt};
 
 use crate::marks::{marks_of, unmarked};
 use crate::piece::{ExtraArc, Joint, Step};
@@ -15,7 +17,7 @@ use std::alloc::Global;
 
 // Whether an arc has one end.
 fn has_one_end(ends: Ends) -> bool
-    ensures { (result ≡ true) ↔ HasOneEnd ends }
+    ensures { (result ≡ true) ↔ HasOneEnd (graph_ends ends) }
 {
     match ends {
         Ends::Link { .. } => false,
@@ -27,8 +29,8 @@ fn has_one_end(ends: Ends) -> bool
 // The place of the first arc with one end, or the number of arcs.
 fn one_ended(basics: &[(u32, Ends, Frac)]) -> usize
     ensures within { result ≤ length basics.now }
-    ensures one { result < length basics.now → HasOneEnd (ends_at basics.now result) }
-    ensures none { (i : ℕ) → i < result → ¬ HasOneEnd (ends_at basics.now i) }
+    ensures one { result < length basics.now → HasOneEnd (graph_ends (ends_by_place basics.now result)) }
+    ensures none { (i : ℕ) → i < result → ¬ HasOneEnd (graph_ends (ends_by_place basics.now i)) }
 {
     let mut i = 0;
     while i < basics.len() {
@@ -95,6 +97,26 @@ fn round_over(alloc: Global, joints: &[Joint], nodes: usize, arc: u32) -> Result
     Ok(round)
 }
 
+// The cycle of as many links as there are nodes.
+pub(crate) fn cycle_of(
+    alloc: Global,
+    joints: &[Joint],
+    incidence: &Incidence,
+    nodes: usize,
+) -> Result<Vec<Step>, Memory>
+    requires ends { AreBelow nodes joints.now }
+    requires few { length joints.now < 2 ^ 32 }
+    requires few_nodes { nodes < 2 ^ 32 }
+    requires lists { IsIncidence joints.now nodes incidence.now }
+    requires as_many { length joints.now ≡ nodes }
+    requires some { 0 < nodes }
+    ensures { IfOk result (λ cycle. IsCycleOf joints.now nodes cycle.items) }
+{
+    let rest = rest_of(alloc, joints, incidence, nodes)?;
+    let round = round_over(alloc, joints, nodes, rest)?;
+    from_least(alloc, round.as_slice())
+}
+
 /// The extra arc of a piece with no loops: its arc with one end, or its cycle. In time proportional to the piece.
 pub fn find_extra(
     alloc: Global,
@@ -104,18 +126,16 @@ pub fn find_extra(
     incidence: &Incidence,
 ) -> Result<ExtraArc, Memory>
     requires few { length nodes.now < 2 ^ 32 }
-    requires tree { IsTree (nodes_in nodes.now) basics.now }
-    requires joints { AreJoints (nodes_in nodes.now) basics.now joints.now }
+    requires tree { IsTree (numbers_of_nodes nodes.now) basics.now }
+    requires joints { AreJoints (numbers_of_nodes nodes.now) basics.now joints.now }
     requires lists { IsIncidence joints.now (length nodes.now) incidence.now }
-    ensures found { IfOk result (λ extra. IsFound (nodes_in nodes.now) basics.now joints.now extra) }
+    ensures found { IfOk result (λ extra. IsFound (numbers_of_nodes nodes.now) basics.now joints.now extra) }
     ensures begins { IfOk result (λ extra. CanBeginAt (length nodes.now) joints.now extra) }
 {
     let one = one_ended(basics);
     if one < basics.len() {
         return Ok(ExtraArc::OneEnd { arc: one as u32 });
     }
-    let rest = rest_of(alloc, joints, incidence, nodes.len())?;
-    let round = round_over(alloc, joints, nodes.len(), rest)?;
-    let cycle = from_least(alloc, round.as_slice())?;
+    let cycle = cycle_of(alloc, joints, incidence, nodes.len())?;
     Ok(ExtraArc::Round { cycle })
 }

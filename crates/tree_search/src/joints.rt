@@ -3,7 +3,7 @@
 ghost use Rattle.std.specs.Prelude.{◌≡◌, ◌<◌, ◌^◌, ℕ, length, IfOk};
 ghost use Rattle.std.specs.List.{All};
 ghost use Rattle.std.specs.List.Sorted.{IsStrictlyIncreasing};
-ghost use Rattle.tree_search.specs.Places.{nodes_in, StandsAt, Stands, EndsStand, IsJoint, AreJoints};
+ghost use Rattle.tree_search.specs.Places.{numbers_of_nodes, IsPlaceOf, HasPlace, EndsHavePlaces, IsJoint, AreJoints};
 ghost use Rattle.tree_search.specs.Search.{AreBelow};
 
 use crate::piece::Joint;
@@ -14,9 +14,9 @@ use std::alloc::Global;
 // The place of a node in the ascending list.
 fn place_of(nodes: &[(u32, Frac)], node: u32) -> u32
     requires few { length nodes.now < 2 ^ 32 }
-    requires ascending { IsStrictlyIncreasing (nodes_in nodes.now) }
-    requires stands { Stands (nodes_in nodes.now) node }
-    ensures { StandsAt (nodes_in nodes.now) node result }
+    requires ascending { IsStrictlyIncreasing (numbers_of_nodes nodes.now) }
+    requires stands { HasPlace (numbers_of_nodes nodes.now) node }
+    ensures { IsPlaceOf (numbers_of_nodes nodes.now) node result }
 {
     let mut low = 0;
     let mut high = nodes.len();
@@ -34,9 +34,9 @@ fn place_of(nodes: &[(u32, Frac)], node: u32) -> u32
 // The places of the ends of an arc.
 fn joint_of(nodes: &[(u32, Frac)], ends: Ends) -> Joint
     requires few { length nodes.now < 2 ^ 32 }
-    requires ascending { IsStrictlyIncreasing (nodes_in nodes.now) }
-    requires stand { EndsStand (nodes_in nodes.now) ends }
-    ensures { IsJoint (nodes_in nodes.now) ends result }
+    requires ascending { IsStrictlyIncreasing (numbers_of_nodes nodes.now) }
+    requires stand { EndsHavePlaces (numbers_of_nodes nodes.now) ends }
+    ensures { IsJoint (numbers_of_nodes nodes.now) ends result }
 {
     match ends {
         Ends::Link { from, to, .. } => Joint {
@@ -67,9 +67,9 @@ pub fn joints_of(
     basics: &[(u32, Ends, Frac)],
 ) -> Result<Vec<Joint>, Memory>
     requires few { length nodes.now < 2 ^ 32 }
-    requires ascending { IsStrictlyIncreasing (nodes_in nodes.now) }
-    requires stand { All (λ arc. EndsStand (nodes_in nodes.now) arc.1) basics.now }
-    ensures joints { IfOk result (λ joints. AreJoints (nodes_in nodes.now) basics.now joints.items) }
+    requires ascending { IsStrictlyIncreasing (numbers_of_nodes nodes.now) }
+    requires stand { All (λ arc. EndsHavePlaces (numbers_of_nodes nodes.now) arc.1) basics.now }
+    ensures joints { IfOk result (λ joints. AreJoints (numbers_of_nodes nodes.now) basics.now joints.items) }
     ensures below { IfOk result (λ joints. AreBelow (length nodes.now) joints.items) }
 {
     let mut joints = Vec::with_capacity(alloc, basics.len())?;

@@ -20,3 +20,6 @@ pub use marks::marks_of;
 pub use off::search_off;
 pub use piece::{ExtraArc, Joint, Step};
 pub use search::{Incidence, Search, arcs_at_nodes, search_from};
+
+#[cfg(test)]
+mod tests;

@@ -1,7 +1,7 @@
 //! The search off the extra arc of a piece.
 
 ghost use Rattle.std.specs.Prelude.{◌≡◌, ◌<◌, ◌^◌, length, IfOk};
-ghost use Rattle.tree_search.specs.Search.{AreBelow, IsIncidence, IsSearch, IsClosed, fars};
+ghost use Rattle.tree_search.specs.Search.{AreBelow, IsIncidence, IsSearch, IsClosed, AreStepsBelow, fars};
 ghost use Rattle.tree_search.specs.Finding.{starts_of, CanBeginAt};
 
 use crate::piece::{ExtraArc, Joint, Step};
@@ -36,6 +36,7 @@ pub fn search_off(
     requires begins { CanBeginAt nodes joints.now extra.now }
     ensures found { IfOk result (λ search. IsSearch joints.now nodes (starts_of joints.now extra.now) search) }
     ensures closed { IfOk result (λ search. IsClosed joints.now search.queue.items) }
+    ensures placed { IfOk result (λ search. AreStepsBelow (length joints.now) nodes search.steps.items) }
 {
     match extra {
         ExtraArc::OneEnd { arc } => {

@@ -3,7 +3,7 @@
 ghost use Rattle.std.specs.Prelude.{◌≡◌, ℕ, ◌<◌, ◌≤◌, ◌^◌, suc, [], length, slice_index, slice_index_or, IfOk, List};
 ghost use Rattle.gain_graphs.specs.Arcs.{IsIn, AreDistinct};
 ghost use Rattle.tree_search.specs.declared.piece.Joint.{Joint as TheJoint};
-ghost use Rattle.tree_search.specs.Search.{AreBelow, JoinsAt, TouchesAt, IsFirstFrom, IsIncidence, IsSearch, IsClosed, AreNodesBelow};
+ghost use Rattle.tree_search.specs.Search.{AreBelow, JoinsAt, TouchesAt, IsFirstFrom, IsIncidence, IsSearch, IsClosed, AreNodesBelow, AreStepsBelow};
 
 use crate::piece::{Joint, Step};
 use np_frac::Memory;
@@ -181,6 +181,7 @@ pub fn search_from(
     requires once { AreDistinct starts.now }
     ensures found { IfOk result (λ search. IsSearch joints.now nodes starts.now search) }
     ensures closed { IfOk result (λ search. IsClosed joints.now search.queue.items) }
+    ensures placed { IfOk result (λ search. AreStepsBelow (length joints.now) nodes search.steps.items) }
 {
     let mut search = begin(alloc, starts, nodes)?;
     let mut next = 0;

@@ -1,6 +1,6 @@
-use Rattle.std.proofs.Common.{◌≡◌, ◌∙◌, ◌<◌, ◌≤◌, ◌+◌, ◌-◌, ◌/◌, ℕ, List, length, slice_index, slice_index_or, arith, sym, subst}
+use Rattle.std.proofs.Common.{◌<◌, ◌≤◌, ◌+◌, ◌-◌, ◌/◌, ℕ, length, arith, sym, subst}
 use Rattle.gain_graphs.proofs.Lists.{length_map}
-use Rattle.tree_search.specs.Places.{nodes_in}
+use Rattle.tree_search.specs.Places.{numbers_of_nodes}
 use Rattle.tree_search.proofs.Trees.{all_below, all_above, met, node_at}
 use Rattle.tree_search.proofs.joints.place_of.Goals as goal
 
@@ -14,7 +14,7 @@ loop-low-preserved-then-nodes-middle c =
     let inside : c.loop-low.low + (c.loop-low.high - c.loop-low.low) / 2 < length c.args.nodes.now = omega (arith, below, v.1) in (
       omega (arith, below),
       v.1,
-      all_below (nodes_in c.args.nodes.now) c.requires.ascending (c.loop-low.low + (c.loop-low.high - c.loop-low.low) / 2) c.args.node (subst (λ n. c.loop-low.low + (c.loop-low.high - c.loop-low.low) / 2 < n) (sym (length_map (λ n. n.0) c.args.nodes.now)) inside)
+      all_below (numbers_of_nodes c.args.nodes.now) c.requires.ascending (c.loop-low.low + (c.loop-low.high - c.loop-low.low) / 2) c.args.node (subst (λ n. c.loop-low.low + (c.loop-low.high - c.loop-low.low) / 2 < n) (sym (length_map (λ n. n.0) c.args.nodes.now)) inside)
           (subst (λ n. n < c.args.node) (sym (node_at c.args.nodes.now (c.loop-low.low + (c.loop-low.high - c.loop-low.low) / 2) c.index-nodes-middle.result inside)) c.if-nodes-middle.true),
       v.3,
     )
@@ -27,7 +27,7 @@ loop-low-preserved c =
       omega arith,
       omega (arith, inside),
       v.2,
-      λ i l h. all_above (nodes_in c.args.nodes.now) c.requires.ascending (c.loop-low.low + (c.loop-low.high - c.loop-low.low) / 2) c.args.node
+      λ i l h. all_above (numbers_of_nodes c.args.nodes.now) c.requires.ascending (c.loop-low.low + (c.loop-low.high - c.loop-low.low) / 2) c.args.node
           (subst (λ n. c.args.node ≤ n) (sym (node_at c.args.nodes.now (c.loop-low.low + (c.loop-low.high - c.loop-low.low) / 2) c.index-nodes-middle.result inside)) c.if-nodes-middle.false)
           i l (subst (λ n. i < n) (sym (length_map (λ n. n.0) c.args.nodes.now)) h),
     )
@@ -35,5 +35,5 @@ loop-low-preserved c =
 pub returns : goal.returns
 returns c =
     let v = c.loop-low.invariant in
-    met (nodes_in c.args.nodes.now) c.requires.ascending c.args.node c.loop-low.low c.loop-low.high c.requires.stands c.loop-low-test.false v.2
-        (λ i l h. v.3 i l (subst (λ n. i < n) (length_map (λ n. n.0) c.args.nodes.now) h))
+    met (numbers_of_nodes c.args.nodes.now) c.requires.ascending c.args.node c.loop-low.low c.loop-low.high c.requires.stands c.loop-low-test.false v.2
+    (λ i l h. v.3 i l (subst (λ n. i < n) (length_map (λ n. n.0) c.args.nodes.now) h))

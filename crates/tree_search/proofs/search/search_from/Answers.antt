@@ -1,7 +1,7 @@
-use Rattle.std.proofs.Common.{rules, ◌≡◌, ◌∙◌, ◌<◌, ◌≤◌, ◌-◌, ◌+◌, ℕ, length, get_or, arith, sym, ap, refl, subst}
+use Rattle.std.proofs.Common.{rules, ◌≡◌, ◌∙◌, ◌<◌, ◌≤◌, length, get_or, arith, sym, subst}
 use Rattle.gain_graphs.specs.Arcs.{IsIn}
 use Rattle.tree_search.specs.Search.{LeadsOn}
-use Rattle.tree_search.proofs.Searches.{default, at_in, queue_fits, expanded, longer, closed}
+use Rattle.tree_search.proofs.Searches.{default, at_in, queue_fits, expanded, longer, closed, steps_placed}
 use Rattle.tree_search.proofs.search.search_from.Goals as goal
 
 pub loop-next-init : goal.loop-next-init
@@ -35,3 +35,6 @@ pub returns-clause-closed : goal.returns-clause-closed
 returns-clause-closed c =
     let over : length c.loop-next.search.queue.items ≤ c.loop-next.next = search rules in
     closed c.args.joints.now c.loop-next.search.queue.items c.loop-next.next over c.loop-next.invariant.2
+
+pub returns-clause-placed : goal.returns-clause-placed
+returns-clause-placed c = steps_placed c.args.joints.now c.args.nodes c.requires.ends c.args.starts.now c.loop-next.search.steps.items c.loop-next.invariant.0.goes
