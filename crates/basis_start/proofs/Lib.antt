@@ -1,2 +1,3 @@
 pub mod Residuals
 pub mod Artificial
+pub mod Gains
