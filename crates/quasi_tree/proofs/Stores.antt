@@ -1,5 +1,5 @@
 -- What the lists of a piece say beside a number, and that they keep their shape when a value beside a number changes.
-use Rattle.std.specs.Prelude.{◌≡◌, ◌≢◌, ◌⊎◌, ◌↔◌, ℕ, ◌+◌, ◌<◌, ◌==◌, Bool, true, false, zero, suc, if◌then◌else◌, Option, Some, None, is_some, List, [], ◌∷◌, ◌++◌, length, map}
+use Rattle.std.specs.Prelude.{◌≡◌, ◌≢◌, ◌⊎◌, ◌↔◌, ℕ, ◌+◌, ◌<◌, ◌==◌, true, false, zero, suc, if◌then◌else◌, Option, Some, None, is_some, List, [], ◌∷◌, ◌++◌, length, map}
 use Rattle.std.specs.List.{zip}
 use Rattle.std.specs.List.Sorted.{IsStrictlyIncreasing}
 use Rattle.std.proofs.lemmas.Slice.Zip.{length-zip, get_or-zip}
@@ -16,7 +16,7 @@ use Rattle.np_model.specs.declared.log.Mark.{Mark}
 use Rattle.np_model.specs.declared.log.Mark.TheVariants.{Lower, Basic}
 use Rattle.np_model.specs.Basis.Graphs.{ratios, graph_ends}
 use Rattle.np_model.specs.Basis.Pieces.{PieceLists, nodes_in, basics_in, ends_in, marked_in, beside, marks_of, flows_of, HasShape, IsStored}
-use Rattle.quasi_tree.specs.Store.{IsHeld, put_beside, with_potential, with_potentials, with_flow, with_mark}
+use Rattle.quasi_tree.specs.Store.{IsHeld, with_potential, with_potentials, with_flow, with_mark}
 use Rattle.quasi_tree.specs.Place.{IsPlace}
 use Rattle.quasi_tree.proofs.Places.{rise, one_place, is_in_at}
 

@@ -1,4 +1,3 @@
-use Rattle.std.proofs.Common.{ap}
 use Rattle.np_frac.specs.Ratio.{zero_ratio}
 use Rattle.quasi_tree.proofs.Stores.{held_node, put_node}
 use Rattle.quasi_tree.proofs.quasi.Quasi.set_potential.Goals as goal

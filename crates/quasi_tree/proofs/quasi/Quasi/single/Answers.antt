@@ -1,9 +1,7 @@
-use Rattle.std.proofs.Common.{rules, ◌≡◌, ◌∙◌, ap, subst, sym, arith, length}
-use Rattle.np_model.specs.Network.Flows.{Network}
+use Rattle.std.proofs.Common.{rules, ◌≡◌, subst, sym, arith}
 use Rattle.np_model.specs.Basis.Phases.{network_of}
 use Rattle.np_model.specs.Basis.Pieces.{PieceLists}
 use Rattle.np_model.specs.Basis.Starts.{start_piece}
-use Rattle.quasi_tree.specs.Start.{end_potential}
 use Rattle.quasi_tree.specs.Store.{IsHeld}
 use Rattle.quasi_tree.proofs.Starts.{held_start, single_is}
 use Rattle.quasi_tree.proofs.quasi.Quasi.single.Goals as goal

@@ -1,5 +1,5 @@
 use Rattle.std.proofs.Common.{ap, ◌∙◌}
-use Rattle.np_frac.specs.Ratio.{Ratio, zero_ratio}
+use Rattle.np_frac.specs.Ratio.{zero_ratio}
 use Rattle.quasi_tree.proofs.Stores.{potential_is}
 use Rattle.quasi_tree.proofs.quasi.QuasiPiece.potential_of.Goals as goal
 
