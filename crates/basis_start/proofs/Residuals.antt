@@ -1,13 +1,12 @@
 -- The residuals of nodes, as one arc after the other is taken.
-use Rattle.std.specs.Prelude.{◌≡◌, ◌≢◌, ℕ, ◌+◌, ◌<◌, ◌≤◌, ◌==◌, Bool, true, false, if◌then◌else◌, Result, Ok, Err, List, [], ◌∷◌, length, map}
-use Rattle.std.specs.List.{fold, zip}
-use Rattle.std.proofs.Common.{refl, sym, ap, ap₂, subst, ◌∙◌, arith, get_or, set, take}
+use Rattle.std.specs.Prelude.{◌≡◌, ◌≢◌, ℕ, ◌+◌, ◌<◌, ◌≤◌, ◌==◌, Bool, true, false, if◌then◌else◌, Ok, Err, List, [], ◌∷◌, length, map}
+use Rattle.std.specs.List.{fold}
+use Rattle.std.proofs.Common.{refl, sym, ap, subst, ◌∙◌, arith, get_or, set, take}
 use Rattle.std.proofs.lemmas.List.{take_all}
 use Rattle.std.proofs.lemmas.Bool.Decides.{nat_tests}
 use Rattle.np_frac.specs.Ratio.{Ratio, zero_ratio, one_ratio, negated, ◌+ᵣ◌, ◌-ᵣ◌, ◌*ᵣ◌}
 use Rattle.np_frac.specs.Fits.{Fits}
 use Rattle.np_frac.specs.Exact.{plus_of, minus_of, times_of, ◌▷◌}
-use Rattle.np_frac.specs.declared.frac.Past.{Past}
 use Rattle.np_frac.proofs.RatioLaws.{one-*ᵣ, zero-*ᵣ, negated-*ᵣ, minus_negated, minus_sum, minus-zero}
 use Rattle.np_frac.proofs.Sums.{sum, total_is}
 use Rattle.np_frac.proofs.Exactness.{found_by, plus_exact, minus_exact, times_exact}

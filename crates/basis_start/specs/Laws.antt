@@ -1,5 +1,5 @@
 -- The law of residuals.
-use Rattle.std.specs.Prelude.{◌≡◌, ℕ, Result, Ok}
+use Rattle.std.specs.Prelude.{◌≡◌, ℕ, Ok}
 use Rattle.np_frac.specs.Ratio.{Ratio}
 use Rattle.np_frac.specs.Fits.{Fits}
 use Rattle.np_model.specs.Network.Flows.{Network, at}

@@ -1,3 +1,5 @@
 pub mod Places
 pub mod Stores
 pub mod Starts
+pub mod FirstStart
+pub mod TwoLinks

@@ -9,3 +9,6 @@ mod start;
 
 pub use lists::{FlowList, Lists, MarkList, NodeList};
 pub use quasi::Quasi;
+
+#[cfg(test)]
+mod tests;

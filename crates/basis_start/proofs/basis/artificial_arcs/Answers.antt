@@ -1,4 +1,4 @@
-use Rattle.std.proofs.Common.{◌≡◌, Ok, sym, ap, ◌∙◌, map, [], arith}
+use Rattle.std.proofs.Common.{◌≡◌, Ok, sym, ◌∙◌, map, [], arith}
 use Rattle.np_model.specs.declared.arc.NetArc.{NetArc}
 use Rattle.np_model.specs.Network.Flows.{Network, at}
 use Rattle.np_model.specs.Basis.Phases.{network_of}

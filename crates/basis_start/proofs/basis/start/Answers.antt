@@ -1,4 +1,4 @@
-use Rattle.std.proofs.Common.{◌≡◌, ap, sym, length, ◌∙◌}
+use Rattle.std.proofs.Common.{◌≡◌, ap}
 use Rattle.np_model.specs.Network.Flows.{Network}
 use Rattle.np_model.specs.Basis.Phases.{network_of}
 use Rattle.basis_start.proofs.Artificial.{artificial_valid}
