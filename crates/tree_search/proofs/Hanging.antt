@@ -1,5 +1,5 @@
 -- What a search from the nodes of the extra arc finds.
-use Rattle.std.proofs.Common.{◌≡◌, ◌≢◌, ◌⊎◌, inl, inr, sym, ap, ap₂, refl, ◌∙◌, subst, ℕ, zero, suc, ◌<◌, List, [], ◌∷◌, ◌++◌, map, length, get_or, slice_index, slice_index_or, arith}
+use Rattle.std.proofs.Common.{◌≡◌, ◌⊎◌, inl, inr, sym, ap, refl, ◌∙◌, subst, ℕ, zero, suc, ◌<◌, List, [], ◌∷◌, map, length, slice_index, slice_index_or, arith}
 use Rattle.gain_graphs.specs.Arcs.{IsIn}
 use Rattle.gain_graphs.specs.Cycles.{nodes_along}
 use Rattle.gain_graphs.specs.QuasiTrees.{IsQuasiTree, LiesIn}
@@ -7,15 +7,15 @@ use Rattle.gain_graphs.proofs.Lists.{in_map, in_map_of}
 use Rattle.np_frac.specs.Ratio.{Ratio}
 use Rattle.np_model.specs.declared.arc.Ends.{Ends}
 use Rattle.np_model.specs.Basis.Graphs.{ratios, graph_of}
-use Rattle.np_model.specs.Rows.Extra.{Extra, root, extra_arcs, extra_nodes, IsExtra, Hangs}
+use Rattle.np_model.specs.Rows.Extra.{Extra, root, extra_nodes, IsExtra, Hangs}
 use Rattle.tree_search.specs.declared.piece.Step.{Step}
 use Rattle.tree_search.specs.declared.piece.Joint.{Joint}
 use Rattle.tree_search.specs.declared.piece.ExtraArc.{ExtraArc}
 use Rattle.tree_search.specs.declared.piece.ExtraArc.TheVariants as found
 use Rattle.tree_search.specs.declared.search.Search.{Search}
 use Rattle.tree_search.specs.Places.{numbers_in, number_at, loose, AreEndsOf, AreJoints, StandsAt, ArePlaces, IsTree}
-use Rattle.tree_search.specs.Search.{GoesOn, IsSearch, IsClosed, fars}
-use Rattle.tree_search.specs.Finding.{IsPlaced, IsLaidOut, IsFound, as_extra, starts_of, way_of}
+use Rattle.tree_search.specs.Search.{IsSearch, IsClosed, fars}
+use Rattle.tree_search.specs.Finding.{IsLaidOut, IsFound, as_extra, starts_of, way_of}
 use Rattle.tree_search.specs.Outwards.{IsStepOver, AreOutwards, SearchesGoOutwards}
 use Rattle.tree_search.proofs.Trees
 use Rattle.tree_search.proofs.Placed
@@ -69,7 +69,7 @@ module _ (nodes : List ℕ) (arcs : List (ℕ × Ends × Ratio)) (joints : List 
   lies = Trees.lies nodes arcs tree ends of
 
   all : (v : ℕ) → IsIn v nodes → IsIn v (extra_nodes x) ⊎ IsIn v (far_nodes hops)
-  all = Placed.all_nodes nodes arcs joints are tree ends of (starts_of joints extra) (extra_nodes x) search.steps.items search.queue.items is_search.queued places closed
+  all = Placed.all_nodes nodes arcs joints are tree (starts_of joints extra) (extra_nodes x) search.steps.items search.queue.items is_search.queued places closed
       (root x) ((Hops.extra_is ends nodes own x shape lies is_extra).inside) (Hops.root_is_in ends own x is_extra)
 
   hop_in : (s : Step) → IsIn s search.steps.items → IsIn (as_hop nodes arcs s) hops
@@ -115,8 +115,8 @@ module _ (nodes : List ℕ) (arcs : List (ℕ × Ends × Ratio)) (joints : List 
         let p = Placed.placed nodes arcs joints are search.steps.items (starts_of joints extra) is_search.goes s i in
         let q = Placed.placed nodes arcs joints are search.steps.items (starts_of joints extra) is_search.goes t j in
         Placed.same_step s t (Trees.one_number nodes arcs tree s.arc t.arc p.0 q.0 (ap (λ (h : Hop). h.arc) same))
-            (Trees.one_place nodes tree.nodes_ascend s.near t.near p.1 q.1 (ap (λ (h : Hop). h.near) same))
-            (Trees.one_place nodes tree.nodes_ascend s.far t.far p.2 q.2 e);
+        (Trees.one_place nodes tree.nodes_ascend s.near t.near p.1 q.1 (ap (λ (h : Hop). h.near) same))
+        (Trees.one_place nodes tree.nodes_ascend s.far t.far p.2 q.2 e);
   }
 
 pub searches_go_outwards : SearchesGoOutwards

@@ -1,16 +1,13 @@
 -- What goes outwards from the extra arc of a piece, by numbers: it is what hangs off the extra arc.
-use Rattle.std.proofs.Common.{◌≡◌, ◌≢◌, ◌⊎◌, inl, inr, sym, ap, refl, ◌∙◌, subst, ap₂, ℕ, List, [], ◌∷◌, ◌++◌, map, length}
+use Rattle.std.proofs.Common.{◌≡◌, ◌⊎◌, inl, inr, sym, ap, refl, ◌∙◌, subst, ℕ, List, [], ◌∷◌, ◌++◌, map}
 use Rattle.std.specs.Prelude.{⊤}
-use Rattle.gain_graphs.specs.Arcs.{IsIn, HasOneEnd, AreJoined, IsWalk, Step}
-use Rattle.gain_graphs.specs.Arcs as graph
-use Rattle.gain_graphs.specs.Cycles.{arcs_along, nodes_along, Joins, IsWay, IsCycle}
+use Rattle.gain_graphs.specs.Arcs.{IsIn, HasOneEnd, AreJoined}
+use Rattle.gain_graphs.specs.Cycles.{arcs_along, nodes_along, Joins, IsCycle}
 use Rattle.gain_graphs.specs.QuasiTrees.{LiesIn, HasExtra, IsQuasiTree}
-use Rattle.gain_graphs.proofs.Lists.{in_back, in_front, map_append, split_at}
+use Rattle.gain_graphs.proofs.Lists.{in_back, map_append, split_at}
 use Rattle.gain_graphs.proofs.Walks
 use Rattle.gain_graphs.proofs.Ways
 use Rattle.gain_graphs.proofs.Cycles
-use Rattle.gain_graphs.proofs.Spare
-use Rattle.np_frac.specs.Ratio.{Ratio}
 use Rattle.np_model.specs.declared.arc.Ends.{Ends}
 use Rattle.np_model.specs.declared.arc.Ends.TheVariants.{Link, Drain, Feed}
 use Rattle.np_model.specs.Basis.Graphs.{ratios, graph_of, graph_ends}
@@ -242,4 +239,3 @@ module _ (ends : ℕ → Ends) (ns own : List ℕ) (x : Extra) where
           go : IsIn a (extra_arcs x) ⊎ IsIn a (arcs_along (pairs hops)) → (h : Hop) × IsIn h hops × (h.arc ≡ a) × (h.near ≡ u) × (h.far ≡ v)
           go (inl i) = absurd (l.off i)
           go (inr i) = let r = of_arc hops a i in hop r.0 r.1 r.2
-

@@ -7,3 +7,5 @@ pub mod Outward
 pub mod Hops
 pub mod Placed
 pub mod Hanging
+pub mod Rounded
+pub mod Finds

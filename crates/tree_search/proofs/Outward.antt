@@ -2,7 +2,7 @@
 use Rattle.std.proofs.Common.{◌≡◌, ◌≢◌, ◌⊎◌, inl, inr, sym, ap, refl, ◌∙◌, subst, ℕ, List, [], ◌∷◌, ◌++◌, length, map}
 use Rattle.std.specs.Prelude.{⊤}
 use Rattle.gain_graphs.specs.Field.{Field}
-use Rattle.gain_graphs.specs.Arcs.{IsIn, Ends, Link, Drain, Feed, Step, HasOneEnd, IsWalk, AreJoined, product}
+use Rattle.gain_graphs.specs.Arcs.{IsIn, Ends, Link, Drain, Feed, HasOneEnd, AreJoined}
 use Rattle.gain_graphs.specs.Cycles.{arcs_along, nodes_along, Joins, IsWay, IsCycle}
 use Rattle.gain_graphs.specs.QuasiTrees.{LiesIn, HasExtra, IsQuasiTree}
 use Rattle.gain_graphs.proofs.Lists.{in_map, in_append, in_with, in_others, map_append, split_at, decide_in}

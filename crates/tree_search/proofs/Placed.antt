@@ -1,17 +1,16 @@
 -- The steps of a search by places are hops by numbers.
-use Rattle.std.proofs.Common.{◌≡◌, ◌≢◌, ◌⊎◌, inl, inr, sym, ap, refl, ◌∙◌, subst, ℕ, zero, suc, ◌<◌, ◌≤◌, List, [], ◌∷◌, ◌++◌, map, length, get_or, slice_index, slice_index_or, arith}
+use Rattle.std.proofs.Common.{◌≡◌, ◌≢◌, ◌⊎◌, inl, inr, sym, ap, refl, ◌∙◌, subst, ℕ, ◌<◌, List, [], ◌∷◌, ◌++◌, map, length, get_or, slice_index, slice_index_or}
 use Rattle.gain_graphs.specs.Arcs.{IsIn, Link}
 use Rattle.gain_graphs.specs.Cycles.{Joins}
-use Rattle.gain_graphs.specs.QuasiTrees.{IsQuasiTree}
-use Rattle.gain_graphs.proofs.Lists.{in_front, in_append, in_map, in_map_of}
+use Rattle.gain_graphs.proofs.Lists.{in_front, in_append, in_map_of}
 use Rattle.gain_graphs.proofs.Walks
 use Rattle.np_frac.specs.Ratio.{Ratio}
 use Rattle.np_model.specs.declared.arc.Ends.{Ends}
 use Rattle.np_model.specs.declared.arc.Ends.TheVariants as the
-use Rattle.np_model.specs.Basis.Graphs.{ratios, graph_ends, graph_of}
+use Rattle.np_model.specs.Basis.Graphs.{graph_ends}
 use Rattle.tree_search.specs.declared.piece.Step.{Step}
 use Rattle.tree_search.specs.declared.piece.Joint.{Joint}
-use Rattle.tree_search.specs.Places.{numbers_in, number_at, ends_at, loose, AreEndsOf, StandsAt, IsJoint, AreJoints, ArePlaces, IsTree}
+use Rattle.tree_search.specs.Places.{numbers_in, ends_in, number_at, ends_at, loose, AreEndsOf, StandsAt, IsJoint, AreJoints, ArePlaces, IsTree}
 use Rattle.tree_search.specs.Search.{JoinsAt, GoesOn, IsClosed, fars}
 use Rattle.tree_search.specs.Finding.{IsPlaced}
 use Rattle.tree_search.proofs.Searches.{default}
@@ -73,29 +72,9 @@ module _ (nodes : List ℕ) (arcs : List (ℕ × Ends × Ratio)) (joints : List 
   placed (t ∷ steps) seen g s (inl e) = let b = below_nodes t.arc t.near t.far g.2 in subst (IsPlaced nodes arcs) (sym e) (subst (λ n. t.arc < n) are.long g.2.0, b.0, b.1)
   placed (t ∷ steps) seen g s (inr i) = placed steps (t.far ∷ seen) g.3 s i
 
-  module _ (tree : IsTree nodes arcs) (ends : ℕ → Ends) (of : AreEndsOf ends arcs) where
-    abbrev own : List ℕ
-    own = numbers_in arcs
-
+  module _ (tree : IsTree nodes arcs) where
     once : (i j : ℕ) → i < length nodes → j < length nodes → slice_index nodes i ≡ slice_index nodes j → i ≡ j
     once = Trees.one_place nodes tree.nodes_ascend
-
-    pub goes : (steps : List Step) (seen list : List ℕ) → ArePlaces nodes seen list → GoesOn joints seen steps → HopsOn ends own list (hops_of nodes arcs steps)
-    goes [] seen list p g = record {}
-    goes (s ∷ steps) seen list p g =
-        let b = below_nodes s.arc s.near s.far g.2 in
-        let inside = subst (λ t. s.arc < t) are.long g.2.0 in
-        let apart : s.near ≢ s.far = λ e. g.1 (subst (λ t. IsIn t seen) e g.0) in (
-          (p (get_or nodes s.near 0)).1 (s.near, g.0, (b.0, refl)),
-          (λ i. let r = (p (get_or nodes s.far 0)).0 i in g.1 (subst (λ t. IsIn t seen) (once r.0 s.far r.2.0 b.1 r.2.1) r.1)),
-          Trees.number_in arcs s.arc inside,
-          subst (λ e. Joins (graph_ends e) (get_or nodes s.near 0) (get_or nodes s.far 0)) (sym (Trees.ends_is ends arcs of s.arc inside))
-              (joint_joins nodes (ends_at arcs s.arc) (slice_index_or joints s.arc loose) s.near s.far (are.each s.arc inside) g.2.1 apart),
-          goes steps (s.far ∷ seen) (get_or nodes s.far 0 ∷ list) (λ v. (
-            (λ i. elim i [ inl e ↦ (s.far, inl refl, (b.1, sym e)) | inr j ↦ let r = (p v).0 j in (r.0, inr r.1, r.2) ]),
-            (λ r. elim r.1 [ inl e ↦ inl (sym r.2.1 ∙ ap (λ t. get_or nodes t 0) e) | inr j ↦ inr ((p v).1 (r.0, j, r.2)) ]),
-          )) g.3,
-        )
 
     abbrev Has : List ℕ → ℕ → Type 0
     Has queue u = (p : ℕ) × IsIn p queue × StandsAt nodes u p
@@ -103,17 +82,18 @@ module _ (nodes : List ℕ) (arcs : List (ℕ × Ends × Ratio)) (joints : List 
     -- a closed list of places with one of the piece has them all
     pub reaches : (queue : List ℕ) → IsClosed joints queue → (r : ℕ) → IsIn r nodes → Has queue r → (v : ℕ) → IsIn v nodes → Has queue v
     reaches queue closed r ir q v iv =
-        let w = (Trees.shape nodes arcs tree ends of).joined r v ir iv in
-        (Walks.within (Has queue) (map (graph_of ends) own) (map (graph_of ends) own) links w.0 r v q w.1).1
+        let w = tree.quasi_tree.joined r v ir iv in
+        (Walks.within (Has queue) (map graph_ends (ends_in arcs)) (map graph_ends (ends_in arcs)) links w.0 r v q w.1).1
       where
         other : (u p z : ℕ) → StandsAt nodes u p → Has queue u → ((b : ℕ) × JoinsAt joints b p z) → IsIn z queue
         other u p z at c j = closed j.0 p z (subst (λ t. IsIn t queue) (once c.0 p c.2.0 at.0 (c.2.1 ∙ sym at.1)) c.1) j.1
 
-        links : (i j : ℕ) (g : Ratio) → IsIn (Link i j g) (map (graph_of ends) own) → Has queue i ⊎ Has queue j → IsIn (Link i j g) (map (graph_of ends) own) × Has queue i × Has queue j
+        links : (i j : ℕ) (g : Ratio) → IsIn (Link i j g) (map graph_ends (ends_in arcs)) → Has queue i ⊎ Has queue j → IsIn (Link i j g) (map graph_ends (ends_in arcs)) × Has queue i × Has queue j
         links i j g m c =
-            let a = in_map_of (graph_of ends) (Link i j g) own m in
-            let b = Trees.place_of arcs a.0 a.1 in
-            let is : graph_ends (ends_at arcs b.0) ≡ Link i j g = ap graph_ends (sym (Trees.ends_is ends arcs of b.0 b.1)) ∙ ap (graph_of ends) (sym b.2) ∙ sym a.2 in
+            let e = in_map_of graph_ends (Link i j g) (ends_in arcs) m in
+            let a = in_map_of (λ b. b.1) e.0 arcs e.1 in
+            let b = Trees.place_in arcs a.0 a.1 in
+            let is : graph_ends (ends_at arcs b.0) ≡ Link i j g = ap (λ (y : ℕ × Ends × Ratio). graph_ends y.1) (sym b.2) ∙ ap graph_ends (sym a.2) ∙ sym e.2 in
             let at = joint_of nodes (ends_at arcs b.0) (slice_index_or joints b.0 loose) i j g (are.each b.0 b.1) is in
             let there : JoinsAt joints b.0 (slice_index_or joints b.0 loose).from (slice_index_or joints b.0 loose).to = (subst (λ t. b.0 < t) (sym are.long) b.1, inl (refl, refl)) in
             let back : JoinsAt joints b.0 (slice_index_or joints b.0 loose).to (slice_index_or joints b.0 loose).from = (subst (λ t. b.0 < t) (sym are.long) b.1, inr (refl, refl)) in
@@ -137,3 +117,21 @@ module _ (nodes : List ℕ) (arcs : List (ℕ × Ends × Ratio)) (joints : List 
           | inl i ↦ inl ((p v).1 (q.0, i, q.2))
           | inr i ↦ inr (subst (λ t. IsIn t (far_nodes (hops_of nodes arcs steps))) q.2.1 (fars_numbers steps q.0 i))
         ]
+
+    module _ (ends : ℕ → Ends) (of : AreEndsOf ends arcs) where
+      pub goes : (steps : List Step) (seen list : List ℕ) → ArePlaces nodes seen list → GoesOn joints seen steps → HopsOn ends (numbers_in arcs) list (hops_of nodes arcs steps)
+      goes [] seen list p g = record {}
+      goes (s ∷ steps) seen list p g =
+          let b = below_nodes s.arc s.near s.far g.2 in
+          let inside = subst (λ t. s.arc < t) are.long g.2.0 in
+          let apart : s.near ≢ s.far = λ e. g.1 (subst (λ t. IsIn t seen) e g.0) in (
+            (p (get_or nodes s.near 0)).1 (s.near, g.0, (b.0, refl)),
+            (λ i. let r = (p (get_or nodes s.far 0)).0 i in g.1 (subst (λ t. IsIn t seen) (once r.0 s.far r.2.0 b.1 r.2.1) r.1)),
+            Trees.number_in arcs s.arc inside,
+            subst (λ e. Joins (graph_ends e) (get_or nodes s.near 0) (get_or nodes s.far 0)) (sym (Trees.ends_is ends arcs of s.arc inside))
+                (joint_joins nodes (ends_at arcs s.arc) (slice_index_or joints s.arc loose) s.near s.far (are.each s.arc inside) g.2.1 apart),
+            goes steps (s.far ∷ seen) (get_or nodes s.far 0 ∷ list) (λ v. (
+              (λ i. elim i [ inl e ↦ (s.far, inl refl, (b.1, sym e)) | inr j ↦ let r = (p v).0 j in (r.0, inr r.1, r.2) ]),
+              (λ r. elim r.1 [ inl e ↦ inl (sym r.2.1 ∙ ap (λ t. get_or nodes t 0) e) | inr j ↦ inr ((p v).1 (r.0, j, r.2)) ]),
+            )) g.3,
+          )

@@ -1,14 +1,14 @@
 -- A search goes on, and what it has seen when it ends.
-use Rattle.std.proofs.Common.{◌≡◌, ◌≢◌, ◌⊎◌, ◌↔◌, inl, inr, sym, ap, refl, ◌∙◌, subst, ap₂, ℕ, ◌<◌, ◌≤◌, suc, zero, ◌+◌, get_or, take, append-nil, length-append, List, [], ◌∷◌, ◌++◌, length, slice_index_or, slice_set, Bool, true, false, true≢false, append_assoc, arith}
+use Rattle.std.proofs.Common.{◌≡◌, ◌≢◌, ◌⊎◌, ◌↔◌, inl, inr, sym, ap, refl, ◌∙◌, subst, ℕ, ◌<◌, ◌≤◌, suc, zero, ◌+◌, get_or, take, append-nil, length-append, List, [], ◌∷◌, ◌++◌, length, slice_index_or, slice_set, Bool, true, false, true≢false, append_assoc, arith}
 use Rattle.std.proofs.lemmas.List.{get_or-set_same, get_or-set_other, length-set, get_or_append_left}
 use Rattle.gain_graphs.specs.Arcs.{IsIn, AreDistinct}
 use Rattle.gain_graphs.proofs.Lists.{in_front, in_back, in_append, at_most, distinct_append}
-use Rattle.gain_graphs.proofs.Selected.{upto, upto_holds, upto_once, length_upto}
+use Rattle.gain_graphs.proofs.Selected.{upto, upto_holds, length_upto}
 use Rattle.tree_search.specs.declared.piece.Step.{Step}
 use Rattle.tree_search.specs.declared.piece.Joint.{Joint}
 use Rattle.tree_search.specs.declared.search.Search.{Search as TheSearch}
 use Rattle.tree_search.specs.Places.{loose}
-use Rattle.tree_search.specs.Search.{AreBelow, JoinsAt, TouchesAt, IsFirstFrom, fars, GoesOn, IsSearch, IsClosed, AreNodesBelow, Grows, LeadsOn}
+use Rattle.tree_search.specs.Search.{JoinsAt, TouchesAt, IsFirstFrom, fars, GoesOn, IsSearch, IsClosed, AreNodesBelow, Grows, LeadsOn}
 
 pub fars_append : (v w : List Step) → fars (v ++ w) ≡ fars v ++ fars w
 fars_append [] w = refl

@@ -1,5 +1,5 @@
 -- What ascending lists and quasi-trees say of places.
-use Rattle.std.proofs.Common.{◌≡◌, ◌≢◌, ◌⊎◌, inl, inr, sym, ap, ap₂, refl, ◌∙◌, subst, ℕ, zero, suc, ◌<◌, ◌≤◌, ◌+◌, List, [], ◌∷◌, map, length, get_or, slice_index, slice_index_or, arith, lt_irrefl}
+use Rattle.std.proofs.Common.{◌≡◌, ◌⊎◌, inl, inr, sym, ap, ap₂, refl, ◌∙◌, subst, ℕ, zero, suc, ◌<◌, ◌≤◌, ◌+◌, List, [], ◌∷◌, map, length, slice_index, slice_index_or, arith}
 use Rattle.std.proofs.lemmas.List.{get_or-map}
 use Rattle.std.proofs.lemmas.List.Kept.{AllPairs-from_increasing}
 use Rattle.std.specs.List.Sorted.{IsStrictlyIncreasing}
@@ -70,10 +70,10 @@ arc_in (x ∷ arcs) (suc i) h = inr (arc_in arcs i (omega arith))
 pub number_in : (arcs : List (ℕ × Ends × Ratio)) (a : ℕ) → a < length arcs → IsIn (number_at arcs a) (numbers_in arcs)
 number_in arcs a h = in_map (λ b. b.0) (slice_index_or arcs a blank) arcs (arc_in arcs a h)
 
-pub place_of : (arcs : List (ℕ × Ends × Ratio)) (n : ℕ) → IsIn n (numbers_in arcs) → (a : ℕ) × (a < length arcs) × (n ≡ number_at arcs a)
-place_of [] n i = absurd i
-place_of (x ∷ arcs) n (inl e) = (zero, omega arith, e)
-place_of (x ∷ arcs) n (inr i) = let r = place_of arcs n i in (suc r.0, omega (arith, r.1), r.2)
+pub place_in : (arcs : List (ℕ × Ends × Ratio)) (b : ℕ × Ends × Ratio) → IsIn b arcs → (a : ℕ) × (a < length arcs) × (b ≡ slice_index_or arcs a blank)
+place_in [] b i = absurd i
+place_in (x ∷ arcs) b (inl e) = (zero, omega arith, e)
+place_in (x ∷ arcs) b (inr i) = let r = place_in arcs b i in (suc r.0, omega (arith, r.1), r.2)
 
 number_is : (arcs : List (ℕ × Ends × Ratio)) (a : ℕ) → a < length arcs → slice_index (numbers_in arcs) a ≡ number_at arcs a
 number_is arcs a h = get_or-map (λ b. b.0) arcs a blank 0 h

@@ -1,8 +1,8 @@
 -- Ways and rounds by places: the way back along a search, the round that an arc closes, begun at its least node and turned.
-use Rattle.std.proofs.Common.{◌≡◌, ◌≢◌, ◌⊎◌, inl, inr, sym, ap, refl, ◌∙◌, subst, ap₂, ℕ, zero, suc, ◌<◌, ◌≤◌, ◌+◌, ◌-◌, List, [], ◌∷◌, ◌++◌, length, take, drop, reverse, slice_index_or, Bool, true, false, cond, nat_eq, eqb-true, eq-eqb, true≢false, arith, append_assoc, append-nil, add-one}
+use Rattle.std.proofs.Common.{◌≡◌, ◌≢◌, ◌⊎◌, inl, inr, sym, ap, refl, ◌∙◌, subst, ap₂, ℕ, zero, suc, ◌<◌, ◌≤◌, ◌+◌, ◌-◌, List, [], ◌∷◌, ◌++◌, length, take, drop, slice_index_or, Bool, true, false, cond, nat_eq, eqb-true, eq-eqb, true≢false, arith, append-nil, add-one}
 use Rattle.std.specs.Prelude.{⊤}
 use Rattle.gain_graphs.specs.Arcs.{IsIn, AreDistinct}
-use Rattle.gain_graphs.proofs.Lists.{in_front, in_back, in_append, distinct_append, swap_once}
+use Rattle.gain_graphs.proofs.Lists.{in_front, in_back, in_append, swap_once}
 use Rattle.tree_search.specs.declared.piece.Step.{Step}
 use Rattle.tree_search.specs.declared.piece.Joint.{Joint}
 use Rattle.tree_search.specs.Search.{JoinsAt, GoesOn, fars, step_arcs}

@@ -1,5 +1,5 @@
 -- A piece by places: an ascending list of nodes, and an ascending list of basic arcs with their ends.
-use Rattle.std.specs.Prelude.{◌≡◌, ◌↔◌, ◌<◌, ◌^◌, ℕ, List, [], ◌∷◌, map, length, slice_index, slice_index_or, ⊤}
+use Rattle.std.specs.Prelude.{◌≡◌, ◌↔◌, ◌<◌, ℕ, List, map, length, slice_index, slice_index_or, ⊤}
 use Rattle.std.specs.List.Sorted.{IsStrictlyIncreasing}
 use Rattle.gain_graphs.specs.Arcs.{IsIn}
 use Rattle.gain_graphs.specs.Cycles.{IsNoLoop}

@@ -1,5 +1,5 @@
 -- A search over arcs by places, away from some nodes.
-use Rattle.std.specs.Prelude.{◌≡◌, ◌⊎◌, ◌↔◌, ◌<◌, ◌≤◌, ℕ, suc, Bool, true, false, List, [], ◌∷◌, ◌++◌, length, slice_index, slice_index_or, ⊤}
+use Rattle.std.specs.Prelude.{◌≡◌, ◌⊎◌, ◌↔◌, ◌<◌, ◌≤◌, ℕ, suc, true, false, List, [], ◌∷◌, ◌++◌, length, slice_index, slice_index_or, ⊤}
 use Rattle.std.specs.List.{All}
 use Rattle.gain_graphs.specs.Arcs.{IsIn}
 use Rattle.tree_search.specs.declared.piece.Step.{Step}

@@ -1,4 +1,4 @@
-use Rattle.std.proofs.Common.{◌≡◌, ◌<◌, ◌≤◌, ◌-◌, ℕ, length, slice_index_or}
+use Rattle.std.proofs.Common.{◌<◌, ◌≤◌, ◌-◌, ℕ, length}
 use Rattle.tree_search.specs.Places.{HasOneEnd, ends_at}
 use Rattle.tree_search.proofs.find.one_ended.Given as goal
 

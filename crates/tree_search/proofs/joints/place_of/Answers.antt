@@ -1,4 +1,4 @@
-use Rattle.std.proofs.Common.{◌≡◌, ◌∙◌, ◌<◌, ◌≤◌, ◌+◌, ◌-◌, ◌/◌, ℕ, List, length, slice_index, slice_index_or, arith, sym, subst}
+use Rattle.std.proofs.Common.{◌<◌, ◌≤◌, ◌+◌, ◌-◌, ◌/◌, ℕ, length, arith, sym, subst}
 use Rattle.gain_graphs.proofs.Lists.{length_map}
 use Rattle.tree_search.specs.Places.{nodes_in}
 use Rattle.tree_search.proofs.Trees.{all_below, all_above, met, node_at}
@@ -36,4 +36,4 @@ pub returns : goal.returns
 returns c =
     let v = c.loop-low.invariant in
     met (nodes_in c.args.nodes.now) c.requires.ascending c.args.node c.loop-low.low c.loop-low.high c.requires.stands c.loop-low-test.false v.2
-        (λ i l h. v.3 i l (subst (λ n. i < n) (length_map (λ n. n.0) c.args.nodes.now) h))
+    (λ i l h. v.3 i l (subst (λ n. i < n) (length_map (λ n. n.0) c.args.nodes.now) h))

@@ -1,4 +1,4 @@
-use Rattle.std.proofs.Common.{◌≡◌, ◌<◌, ◌≤◌, ◌-◌, ℕ, length, slice_index}
+use Rattle.std.proofs.Common.{◌<◌, ◌≤◌, ◌-◌, ℕ, length, slice_index}
 use Rattle.tree_search.specs.Places.{nodes_in}
 use Rattle.tree_search.proofs.joints.place_of.Given as goal
 

@@ -1,6 +1,5 @@
-use Rattle.std.proofs.Common.{◌≡◌, ◌∙◌, ◌<◌, ◌+◌, ℕ, List, length, slice_index_or, get_or, take, ap, sym, true, add-one}
+use Rattle.std.proofs.Common.{◌∙◌, true}
 use Rattle.std.proofs.lemmas.List.{length-set}
-use Rattle.std.proofs.Math.Seq.{take-suc}
 use Rattle.tree_search.proofs.Marked.{marked_more}
 use Rattle.tree_search.proofs.marks.marks_of.Goals as goal
 

@@ -1,4 +1,4 @@
-use Rattle.std.proofs.Common.{◌≡◌, ◌∙◌, ap, ◌++◌, ◌∷◌, [], ◌+◌, List, slice_index_or}
+use Rattle.std.proofs.Common.{◌∙◌, ap, ◌++◌, ◌∷◌, [], ◌+◌, List, slice_index_or}
 use Rattle.tree_search.specs.declared.piece.Step.{Step}
 use Rattle.tree_search.proofs.Ways.{begun_more}
 use Rattle.tree_search.proofs.round.begun_at.Goals as goal

@@ -1,4 +1,4 @@
-use Rattle.std.proofs.Common.{◌≡◌, ◌<◌, ◌≤◌, ◌-◌, ℕ, length, slice_index_or}
+use Rattle.std.proofs.Common.{◌<◌, ◌≤◌, ◌-◌, ℕ, length, slice_index_or}
 use Rattle.tree_search.specs.declared.piece.Step.{Step}
 use Rattle.tree_search.proofs.round.least_end.Given as goal
 

@@ -1,4 +1,4 @@
-use Rattle.std.proofs.Common.{rules, ◌≡◌, ◌∙◌, ◌<◌, ◌≤◌, ◌-◌, ℕ, suc, length, get_or, arith, sym, ap, refl, subst, slice_index_or}
+use Rattle.std.proofs.Common.{◌≡◌, ◌∙◌, ◌<◌, ◌-◌, ℕ, suc, length, get_or, arith, sym, subst, slice_index_or}
 use Rattle.std.proofs.lemmas.List.{length-set}
 use Rattle.tree_search.specs.Search.{IsFirstFrom}
 use Rattle.tree_search.specs.Places.{loose}

@@ -1,4 +1,4 @@
-use Rattle.std.proofs.Common.{rules, ◌≡◌, ◌∙◌, ◌<◌, ◌≤◌, ◌-◌, ◌+◌, ℕ, length, get_or, arith, sym, ap, refl, subst}
+use Rattle.std.proofs.Common.{rules, ◌≡◌, ◌∙◌, ◌<◌, ◌≤◌, length, get_or, arith, sym, subst}
 use Rattle.gain_graphs.specs.Arcs.{IsIn}
 use Rattle.tree_search.specs.Search.{LeadsOn}
 use Rattle.tree_search.proofs.Searches.{default, at_in, queue_fits, expanded, longer, closed}

@@ -1,4 +1,4 @@
-use Rattle.std.proofs.Common.{◌≡◌, ◌<◌, ◌≤◌, ◌-◌, ℕ, length, slice_index}
+use Rattle.std.proofs.Common.{◌<◌, ◌≤◌, ◌-◌, ℕ, length, slice_index}
 use Rattle.tree_search.specs.Search.{IsSearch, LeadsOn}
 use Rattle.tree_search.proofs.search.search_from.Given as goal
 

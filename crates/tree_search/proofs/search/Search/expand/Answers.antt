@@ -1,5 +1,4 @@
-use Rattle.std.proofs.Common.{◌≡◌, ◌∙◌, ◌<◌, ◌≤◌, ℕ, subst, arith, length}
-use Rattle.tree_search.specs.Search.{LeadsOn}
+use Rattle.std.proofs.Common.{◌∙◌, ◌≤◌, arith, length}
 use Rattle.tree_search.proofs.Searches.{kept, grows_on, leads_more}
 use Rattle.tree_search.proofs.search.Search.expand.Goals as goal
 

@@ -1,7 +1,6 @@
-use Rattle.std.proofs.Common.{rules, ◌≡◌, ℕ, ◌<◌, List, [], ◌∷◌, ◌++◌, inl, inr, refl, ap, sym, subst, ◌∙◌, slice_index_or, true, false}
+use Rattle.std.proofs.Common.{rules, ◌≡◌, ◌<◌, [], ◌∷◌, inl, refl, sym, subst, slice_index_or, false}
 use Rattle.gain_graphs.specs.Arcs.{IsIn}
 use Rattle.gain_graphs.proofs.Lists.{in_back}
-use Rattle.tree_search.specs.Search.{IsSearch}
 use Rattle.tree_search.proofs.Searches.{visited, joins_below}
 use Rattle.tree_search.proofs.search.Search.visit.Goals as goal
 
