@@ -1,3 +1,5 @@
 pub mod Links
 pub mod Results
 pub mod Rounds
+pub mod Carried
+pub mod Whole
