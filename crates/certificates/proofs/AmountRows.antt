@@ -10,7 +10,7 @@ use Rattle.np_frac.specs.Text.{printed}
 use Rattle.np_records.specs.Rows.{is_period}
 use Rattle.np_model.specs.Scheme.Names.{name_at}
 use Rattle.np_records.proofs.NumberFacts.{period-is}
-use Rattle.certificates.proofs.NameTables.{place-own}
+use Rattle.np_records.proofs.Places.{place-own}
 use Rattle.certificates.specs.Claims.{Outline, Claims, place_with}
 use Rattle.certificates.specs.Faults.{amount_fault}
 use Rattle.certificates.specs.Steps.Claims.{with_amount, with_record}

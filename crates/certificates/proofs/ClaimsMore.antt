@@ -15,7 +15,8 @@ use Rattle.np_records.specs.Names.{place_of, place_in}
 use Rattle.np_records.specs.Records.{field_of}
 use Rattle.np_model.specs.declared.log.Entry.{Entry}
 use Rattle.np_records.specs.Rows.{is_period, is_kind, whole_in}
-use Rattle.certificates.proofs.NameTables.{place-is, place-within, kind-is}
+use Rattle.np_records.proofs.Places.{place-is, place-within}
+use Rattle.np_records.proofs.FieldFacts.{kind-is}
 use Rattle.np_frac.proofs.TextTests.{and-left, and-right}
 use Rattle.np_records.proofs.FaultFacts.{or-first, or-rest, unless-none}
 use Rattle.certificates.specs.declared.refused.PlanCode.{PlanCode}

@@ -1,5 +1,4 @@
 mod FieldFacts
-mod NameTables
 mod Skipped
 mod Found
 mod ClaimsMore

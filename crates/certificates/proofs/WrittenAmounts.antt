@@ -20,7 +20,7 @@ use Rattle.certificates.specs.Grammar.{amount_at, staged_amounts, node_amounts}
 use Rattle.certificates.specs.Writing.{staged_rows, price_rows}
 use Rattle.certificates.proofs.AmountRows.{IsGiven, place_for, row_for, IsTaken, runs-amounts}
 use Rattle.certificates.proofs.Found.{get-slice}
-use Rattle.certificates.proofs.NameTables.{place-own}
+use Rattle.np_records.proofs.Places.{place-own}
 use Rattle.certificates.proofs.Rising.{Rises, rises-range, filled, filled-length, filled-amounts}
 use Rattle.certificates.proofs.Runs.{Runs}
 use Rattle.certificates.proofs.StagedPlaces.{stage_place, IsArcOf, rises-staged, arcs-staged}

@@ -15,8 +15,8 @@ use Rattle.np_records.specs.Rows.{is_kind}
 use Rattle.net_csv.specs.Network.{is_flow, defined_nodes, defined_flows, flows_of, defined_node, defined_flow}
 use Rattle.net_csv.specs.Faults.{body_fault, supply_fault, flow_fault, piece_fault, kind_fault, head_fault}
 use Rattle.net_csv.specs.Steps.Tables.{tables_of, with_record}
-use Rattle.net_csv.proofs.Places.{all-push}
-use Rattle.net_csv.proofs.RowKinds.{IsFine, kind-is, fine-kept, all_fine-kept}
+use Rattle.np_records.proofs.FieldFacts.{kind-is}
+use Rattle.net_csv.proofs.RowKinds.{IsFine, fine-kept, all_fine-kept}
 use Rattle.net_csv.proofs.Steps.{flow-apart, tables-node, tables-supply, tables-flow, tables-piece}
 
 pub used-some : (ns : List (List ℕ)) (n : List ℕ) → used_fault ns n ≡ None → IsSome (place_of ns n)
@@ -72,6 +72,10 @@ fine-none periods rows r h = record {
   head = λ t. kind-head (defined_nodes rows) r t (kind-none _ _ _ _ r (flow-part periods rows r (rw t refl) h));
   piece = λ t. used-some (defined_flows rows) (field_of r 1) (or-first _ _ (or-rest _ _ (piece-part periods rows r t h)));
 }
+
+all-push : {X : Type 0} (P : X → Type 0) (xs : List X) (x : X) → AllByRecursion P xs → P x → AllByRecursion P (xs ++ x ∷ [])
+all-push P [] x all here = (here, tt)
+all-push P (y ∷ ys) x all here = (all.0, all-push P ys x all.1 here)
 
 pub fine-more : (rows : List (List (List ℕ))) (r : List (List ℕ)) → AllByRecursion (IsFine (defined_nodes rows) (defined_flows rows)) rows → IsFine (defined_nodes rows) (defined_flows rows) r
     → AllByRecursion (IsFine (defined_nodes (rows ++ r ∷ [])) (defined_flows (rows ++ r ∷ []))) (rows ++ r ∷ [])

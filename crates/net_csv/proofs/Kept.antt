@@ -39,7 +39,7 @@ use Rattle.np_frac.proofs.TextTests.{amount-reads}
 use Rattle.np_records.proofs.FaultFacts.{or-first, or-rest, unless-none}
 use Rattle.net_csv.proofs.LastSlopes.{last-of}
 use Rattle.net_csv.proofs.Fine.{used-some}
-use Rattle.net_csv.proofs.Places.{place-within, places-differ, distinct-push, distinct-none}
+use Rattle.np_records.proofs.Places.{place-within, places-differ, distinct-push, distinct-none}
 
 -- ---- amounts and bounds
 

@@ -1,6 +1,5 @@
 pub mod FieldFacts
 mod TakeFacts
-pub mod Places
 pub mod RowKinds
 mod FlowLists
 mod Steps
@@ -17,7 +16,6 @@ mod SupplyFacts
 mod SchemeValid
 mod AmountTexts
 mod Runs
-pub mod WrittenNames
 mod WrittenFields
 mod WrittenFlows
 mod WrittenBands

@@ -12,14 +12,10 @@ use Rattle.np_model.specs.declared.scheme.Band.{Band}
 use Rattle.net_csv.specs.declared.given.Given.{Given}
 use Rattle.np_records.specs.Rows.{is_kind}
 use Rattle.net_csv.specs.Network.{is_flow, given_in, head_in, kind_in, piece_in}
-use Rattle.net_csv.proofs.Places.{place-kept, some-kept}
+use Rattle.np_records.proofs.Places.{place-kept, some-kept}
 
 apart : (w a b : List ℕ) → bytes_eq a b ≡ false → bytes_eq w a ≡ true → bytes_eq w b ≡ false
 apart w a b differ t = rw ((bytes_eq-Decides w a).0 t) differ
-
--- a record of this kind is of no other
-pub kind-is : (r : List (List ℕ)) (word : List ℕ) → is_kind r word ≡ true → field_of r 0 ≡ word
-kind-is r word t = (bytes_eq-Decides (field_of r 0) word).0 t
 
 -- ---- a record whose names are all defined, among these names
 

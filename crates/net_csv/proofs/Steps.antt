@@ -18,8 +18,9 @@ use Rattle.np_records.specs.Rows.{is_kind}
 use Rattle.net_csv.specs.Network.{is_flow, defined_node, defined_flow, defined_nodes, defined_flows, given_in, head_in, piece_in, supplies_of, heads_of, pieces_of, flows_of, bands_at, with_bands}
 use Rattle.net_csv.specs.Faults.{band_of}
 use Rattle.net_csv.specs.Steps.Tables.{Tables, tables_of, with_node, with_supply, with_flow, with_piece, banded, supply_of, plain_flow, head_of}
-use Rattle.net_csv.proofs.Places.{place-is, place-within}
-use Rattle.net_csv.proofs.RowKinds.{IsFine, kind-is, supplies-kept, heads-kept, pieces-kept}
+use Rattle.np_records.proofs.Places.{place-is, place-within}
+use Rattle.np_records.proofs.FieldFacts.{kind-is}
+use Rattle.net_csv.proofs.RowKinds.{IsFine, supplies-kept, heads-kept, pieces-kept}
 use Rattle.net_csv.proofs.FlowLists.{bands-beyond, with_bands-flow, with_bands-band}
 
 -- ---- lists

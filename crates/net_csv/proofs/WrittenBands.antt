@@ -25,7 +25,7 @@ use Rattle.net_csv.specs.declared.given.Given.{Given}
 use Rattle.net_csv.specs.Steps.Tables.{Tables, with_record, flow_added, banded}
 use Rattle.net_csv.specs.Writing.{piece_row, flow_rows}
 use Rattle.net_csv.proofs.AmountTexts.{amount_text-value}
-use Rattle.net_csv.proofs.WrittenNames.{place-new, place-last}
+use Rattle.np_records.proofs.Places.{place-new, place-last}
 use Rattle.net_csv.proofs.WrittenFields.{amount-fine, upper-fine, upper-value, new-fine, used-fine, wide, not_below}
 use Rattle.net_csv.proofs.WrittenFlows.{and-true, bare, flow-step, amounts-each}
 use Rattle.net_csv.proofs.LastSlopes.{last_slope-push}

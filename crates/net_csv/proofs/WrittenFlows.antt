@@ -21,7 +21,7 @@ use Rattle.net_csv.specs.AmountText.{amount_text}
 use Rattle.np_model.specs.Scheme.Names.{name_at}
 use Rattle.net_csv.specs.Writing.{upper_text, ends_row, flow_row}
 use Rattle.net_csv.proofs.AmountTexts.{amount_text-value}
-use Rattle.net_csv.proofs.WrittenNames.{place-own, names-differ}
+use Rattle.np_records.proofs.Places.{place-own, names-differ}
 use Rattle.net_csv.proofs.WrittenFields.{amount-fine, gain-fine, upper-fine, upper-value, used-fine, at_most}
 use Rattle.net_csv.proofs.Runs.{IsStep}
 

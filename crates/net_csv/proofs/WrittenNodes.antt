@@ -10,7 +10,7 @@ use Rattle.np_model.specs.Scheme.Names.{is_name}
 use Rattle.net_csv.specs.Faults.{nodes_fault}
 use Rattle.net_csv.specs.Steps.Tables.{Tables, no_tables}
 use Rattle.net_csv.specs.Writing.{node_row}
-use Rattle.net_csv.proofs.WrittenNames.{place-new}
+use Rattle.np_records.proofs.Places.{place-new}
 use Rattle.net_csv.proofs.WrittenFields.{new-fine}
 use Rattle.net_csv.proofs.Runs.{IsStep, Runs, runs-step}
 

@@ -20,7 +20,7 @@ use Rattle.net_csv.specs.AmountText.{amount_text}
 use Rattle.np_model.specs.Scheme.Names.{name_at}
 use Rattle.net_csv.specs.Writing.{supply_row}
 use Rattle.net_csv.proofs.AmountTexts.{amount_text-value}
-use Rattle.net_csv.proofs.WrittenNames.{place-own}
+use Rattle.np_records.proofs.Places.{place-own}
 use Rattle.net_csv.proofs.WrittenFields.{amount-fine, used-fine, period-fine, period-value}
 use Rattle.net_csv.proofs.Runs.{IsStep, Runs, runs-step}
 

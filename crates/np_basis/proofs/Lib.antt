@@ -5,6 +5,7 @@ pub mod Fulls
 pub mod Ascending
 pub mod Basics
 pub mod Starting
+pub mod StartPieces
 pub mod Cutting
 pub mod Reading
 pub mod Examples

@@ -180,27 +180,27 @@ module _ (net : Network) where
   length_ends : length (artificial_ends net) ≡ n
   length_ends = length-map-range_with_len (artificial_end net) 0 n
 
-  length_arcs : length full.arcs ≡ m + n
+  pub length_arcs : length full.arcs ≡ m + n
   length_arcs = length_full One net.arcs (artificial_ends net) ∙ ap (λ t. m + t) length_ends
 
   minus : (v : ℕ) → m + v - m ≡ v
   minus v = omega arith
 
-  real_at : (a : ℕ) → a < m → arc_at full.arcs a ≡ real_arc One (arc_at net.arcs a)
+  pub real_at : (a : ℕ) → a < m → arc_at full.arcs a ≡ real_arc One (arc_at net.arcs a)
   real_at a l = full_nets.real_at One net.arcs (artificial_ends net) a l
 
   artificial_at : (v : ℕ) → v < n → arc_at full.arcs (m + v) ≡ artificial_arc One (artificial_end net v)
   artificial_at v l = full_nets.artificial_at One net.arcs (artificial_ends net) (m + v) (omega arith) (omega (arith, length_ends))
       ∙ ap (λ t. artificial_arc One (get_or (artificial_ends net) t (Drain 0))) (minus v) ∙ ap (artificial_arc One) (end_at v (Drain 0) l)
 
-  ends_are : (v : ℕ) → v < n → ends_at full.arcs (m + v) ≡ artificial_end net v
+  pub ends_are : (v : ℕ) → v < n → ends_at full.arcs (m + v) ≡ artificial_end net v
   ends_are v l = ap (λ (x : NetArc). x.ends) (artificial_at v l)
 
-  mark_real : (a : ℕ) → a < m → (values_of (start_state net)).mark a ≡ marked.Lower
+  pub mark_real : (a : ℕ) → a < m → (values_of (start_state net)).mark a ≡ marked.Lower
   mark_real a l = get_or_append_left (map (λ b. marked.Lower) net.arcs) (map (λ v. marked.Basic) (nodes_from_0 net)) marked.Lower a (omega (arith, length-map net.arcs (λ b. marked.Lower)))
       ∙ get_or-map (λ b. marked.Lower) net.arcs a no_arc marked.Lower l
 
-  mark_artificial : (v : ℕ) → v < n → (values_of (start_state net)).mark (m + v) ≡ marked.Basic
+  pub mark_artificial : (v : ℕ) → v < n → (values_of (start_state net)).mark (m + v) ≡ marked.Basic
   mark_artificial v l = get_or-append_right (map (λ b. marked.Lower) net.arcs) (map (λ v. marked.Basic) (nodes_from_0 net)) m (m + v) marked.Lower (length-map net.arcs (λ b. marked.Lower)) (omega arith)
       ∙ ap (λ t. get_or (map (λ v. marked.Basic) (nodes_from_0 net)) t marked.Lower) (minus v)
       ∙ get_or-map-range_with_len (λ v. marked.Basic) 0 n v v marked.Lower l (omega arith)
@@ -209,12 +209,12 @@ module _ (net : Network) where
   flow_real a l = get_or_append_left (map (λ b. b.lower) net.arcs) (map (artificial_flow net) (nodes_from_0 net)) zero_ratio a (omega (arith, length-map net.arcs (λ (b : NetArc). b.lower)))
       ∙ get_or-map (λ (b : NetArc). b.lower) net.arcs a no_arc zero_ratio l
 
-  flow_artificial : (v : ℕ) → v < n → at (start_state net).flows (m + v) ≡ artificial_flow net v
+  pub flow_artificial : (v : ℕ) → v < n → at (start_state net).flows (m + v) ≡ artificial_flow net v
   flow_artificial v l = get_or-append_right (map (λ b. b.lower) net.arcs) (map (artificial_flow net) (nodes_from_0 net)) m (m + v) zero_ratio (length-map net.arcs (λ (b : NetArc). b.lower)) (omega arith)
       ∙ ap (λ t. get_or (map (artificial_flow net) (nodes_from_0 net)) t zero_ratio) (minus v)
       ∙ get_or-map-range_with_len (artificial_flow net) 0 n v v zero_ratio l (omega arith)
 
-  potential_at : (v : ℕ) → v < n → at (start_state net).potentials v ≡ start_potential net v
+  pub potential_at : (v : ℕ) → v < n → at (start_state net).potentials v ≡ start_potential net v
   potential_at v l = get_or-map-range_with_len (start_potential net) 0 n v v zero_ratio l (omega arith)
 
   length_flows : length (start_state net).flows ≡ length full.arcs
@@ -222,7 +222,7 @@ module _ (net : Network) where
       ∙ ap₂ (λ x y. x + y) (length-map net.arcs (λ (b : NetArc). b.lower)) (length-map-range_with_len (artificial_flow net) 0 n) ∙ sym length_arcs
 
   -- an arc is a real one, or the artificial one of a node
-  split : (a : ℕ) → a < length full.arcs → (a < m) ⊎ ((v : ℕ) × (v < n) × (a ≡ m + v))
+  pub split : (a : ℕ) → a < length full.arcs → (a < m) ⊎ ((v : ℕ) × (v < n) × (a ≡ m + v))
   split a l = elim (cases a m) [ inl k ↦ inl k | inr k ↦ inr (a - m, omega (arith, length_arcs), omega arith) ]
     where
       cases : (x y : ℕ) → (x < y) ⊎ (y ≤ x)
@@ -375,15 +375,18 @@ module _ (net : Network) where
     };
   }
 
-  tree : (v : ℕ) → v < n → IsQuasiTree ratios (v ∷ []) (map graph_at ((m + v) ∷ []))
-  tree v l = record {
+  pub one_node_tree : (v : ℕ) → IsQuasiTree ratios (v ∷ []) (graph_ends (artificial_end net v) ∷ [])
+  one_node_tree v = record {
     nodes_once = ((λ i. i), record {});
     some_node = (v, inl refl);
-    ends_inside = λ e. elim [ inl p ↦ subst (LiesIn ratios (v ∷ [])) (sym (p ∙ graph_is v l)) (touch_at (v ∷ []) v (inl refl)).1 | inr i ↦ absurd i ];
+    ends_inside = λ e. elim [ inl p ↦ subst (LiesIn ratios (v ∷ [])) (sym p) (touch_at (v ∷ []) v (inl refl)).1 | inr i ↦ absurd i ];
     joined = λ u w i j. elim i [ inl p ↦ elim j [ inl r ↦ ([], p ∙ sym r) | inr k ↦ absurd k ] | inr k ↦ absurd k ];
     as_many = refl;
-    extra = inl (graph_at (m + v), inl refl, subst HasOneEnd (sym (graph_is v l)) (one_end v));
+    extra = inl (graph_ends (artificial_end net v), inl refl, one_end v);
   }
+
+  tree : (v : ℕ) → v < n → IsQuasiTree ratios (v ∷ []) (map graph_at ((m + v) ∷ []))
+  tree v l = subst (λ e. IsQuasiTree ratios (v ∷ []) (e ∷ [])) (sym (graph_is v l)) (one_node_tree v)
 
   is_state : HasSoundArcs net → ResidualsFit net → IsState full (start_state net)
   is_state sound fit = record {

@@ -19,9 +19,9 @@ use Rattle.np_model.specs.Network.Nets.{IsSoundArc}
 use Rattle.np_model.specs.Basis.Artificial.{AreArtificial}
 use Rattle.np_model.specs.Basis.Graphs.{graph_of, arc_at, ends_at, cost_at}
 use Rattle.np_model.specs.Basis.Phases.{with_artificial, phase_net}
-use Rattle.np_model.specs.Basis.Pieces.{PieceLists, nodes_in, basics_in, AreApart}
+use Rattle.np_model.specs.Basis.Pieces.{PieceLists, nodes_in, basics_in, HasShape, AreApart}
 use Rattle.np_model.specs.Basis.States.{State, Values, values_of, price, IsPart, IsPieceOf, IsState}
-use Rattle.np_model.specs.Basis.Starts.{artificial_ends, start_state, start_net, ResidualsFit}
+use Rattle.np_model.specs.Basis.Starts.{artificial_ends, start_state, start_net, start_piece, ResidualsFit}
 use Rattle.np_model.specs.Basis.Sound.{IsInNet, AreSound}
 use Rattle.np_model.specs.Rows.Extra.{Extra, Round, IsExtra}
 use Rattle.np_model.specs.Rows.Potentials as potentials
@@ -61,6 +61,14 @@ StartIsSingles = (net : Network) (nodes numbers : List ℕ) → IsPart (start_ne
 abbrev pub SingleIsPart : Type 0
 SingleIsPart = (net : Network) (v : ℕ) → v < length net.supply
     → IsPart (start_net One net) (values_of (start_state net)).mark (v ∷ []) ((length net.arcs + v) ∷ [])
+
+-- the lists of the piece of a node have the shape of a piece
+abbrev pub StartPieceHasShape : Type 0
+StartPieceHasShape = (net : Network) (v : ℕ) → HasShape (start_piece net v)
+
+-- and they are the piece of that node in the start state
+abbrev pub StartPieceIsPiece : Type 0
+StartPieceIsPiece = (net : Network) (v : ℕ) → v < length net.supply → IsPieceOf (start_net One net) (values_of (start_state net)) (start_piece net v)
 
 -- ---- the pieces of a state
 

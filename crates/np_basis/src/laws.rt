@@ -1,6 +1,6 @@
 //! The laws of states, of their pieces and of the rows of a piece, as the clauses of functions that do nothing.
 
-ghost use Rattle.np_basis.specs.Laws.{FullIsSound, FullNetIsSound, StartIsArtificial, StartIsState, StartIsSingles, SingleIsPart, PieceExists, PieceIsUnique, PiecesAreSound, PotentialsExist, PotentialsAreUnique, WeightsExist, PriceIsReduced, LinksAreNoLoops, ExtraExists, ExtraIsUnique, PotentialsDivisor, DirectionsDivisor, StateExample, RoundExample};
+ghost use Rattle.np_basis.specs.Laws.{FullIsSound, FullNetIsSound, StartIsArtificial, StartIsState, StartIsSingles, SingleIsPart, StartPieceHasShape, StartPieceIsPiece, PieceExists, PieceIsUnique, PiecesAreSound, PotentialsExist, PotentialsAreUnique, WeightsExist, PriceIsReduced, LinksAreNoLoops, ExtraExists, ExtraIsUnique, PotentialsDivisor, DirectionsDivisor, StateExample, RoundExample};
 
 /// A full network is valid in each phase: with sound real arcs and an artificial arc at each node, all its arcs are sound. So they are in
 /// every [`FullNet`](np_model::FullNet), by its type.
@@ -10,12 +10,14 @@ pub fn full_networks()
 {}
 
 /// Where the residual of each node fits, the start is a state of stage one. Its artificial arcs are one at each node, and its pieces are the
-/// nodes alone, each with its artificial arc.
+/// nodes alone, each with its artificial arc: the lists of such a piece have its shape, and are its lists in the start state.
 pub fn start()
     ensures artificial { StartIsArtificial }
     ensures is_state { StartIsState }
     ensures singles { StartIsSingles }
     ensures parts { SingleIsPart }
+    ensures shape { StartPieceHasShape }
+    ensures piece { StartPieceIsPiece }
 {}
 
 /// Each node lies in exactly one piece of what a state says, and pieces of a state that share no node are sound.

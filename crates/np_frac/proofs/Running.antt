@@ -1,6 +1,6 @@
 -- Running values of many places, each a ratio or the operation that overflowed, when those at two places go on.
 use Rattle.std.specs.Prelude.{◌≡◌, ◌≢◌, ℕ, ◌<◌, Result, Ok, List, length}
-use Rattle.std.proofs.Common.{refl, sym, ◌∙◌, inl, inr, arith, get_or, set}
+use Rattle.std.proofs.Common.{sym, ◌∙◌, inl, inr, arith, get_or, set}
 use Rattle.std.proofs.lemmas.Bool.{cases_eq}
 use Rattle.std.proofs.lemmas.Grind.{common_steps}
 use Rattle.np_frac.specs.Ratio.{Ratio}

@@ -7,11 +7,13 @@ ghost use Rattle.np_frac.specs.Amount.{IsAmount, amount_of, IsAmountEnd, amount_
 use crate::digits::{read_number, split_at_mark, with_sign, without_minus};
 use crate::frac::Frac;
 
-// What the numerator and the denominator of a short amount are below, and the denominator of a decimal.
+// What the size of a short amount's numerator is below.
 const SHORT_NUM: u128 = 1_000_000_000_000_000_000;
 
+// What a short amount's denominator is below.
 const SHORT_DEN: u128 = 10_000_000_000_000_000_000;
 
+// What a decimal's denominator divides.
 const BILLION: u128 = 1_000_000_000;
 
 /// The upper and the lower number of an amount, from its whole number and what stands behind that.

@@ -1,7 +1,7 @@
 -- The arcs of a full network in a phase, by their numbers.
 use Rattle.std.specs.Prelude.{◌≡◌, ℕ, ◌+◌, ◌-◌, ◌<◌, ◌≤◌, List, length, map, slice_index_or}
-use Rattle.std.proofs.Common.{refl, ap, ◌∙◌, arith}
-use Rattle.std.proofs.lemmas.List.{get_or_append_left, get_or-append_right, get_or-map, length-map, get_or_default}
+use Rattle.std.proofs.Common.{ap, ◌∙◌, arith}
+use Rattle.std.proofs.lemmas.List.{get_or_append_left, get_or-append_right, get_or-map, length-map}
 use Rattle.np_frac.specs.Ratio.{zero_ratio}
 use Rattle.np_model.specs.declared.arc.Ends.{Ends}
 use Rattle.np_model.specs.declared.arc.Ends.TheVariants.{Drain}

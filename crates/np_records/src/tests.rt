@@ -1,6 +1,6 @@
 use crate::{NameTable, Records, Text, field};
 use csv::ByteRecord;
-use np_frac::Frac;
+use np_frac::{Frac, Memory};
 use std::alloc::Global;
 use std::test::Fail;
 
@@ -62,6 +62,14 @@ fn reads_one_by_one(rt: HostRuntime) -> Result<(), Fail> {
     Ok(())
 }
 
+// Writes the record of these fields.
+fn write_record(text: &mut Text, fields: &[&[u8]]) -> Result<(), Memory> {
+    for field in fields {
+        text.word(field)?;
+    }
+    text.end()
+}
+
 // The quotes are those that RFC 4180 asks for, in its sections 2.5 to 2.7, and those that keep an
 // empty record from being a blank line.
 #[test]
@@ -69,9 +77,9 @@ fn writes_records(rt: HostRuntime) -> Result<(), Fail> {
     let alloc = rt.alloc();
     let mut text = Text::new(alloc);
     let fields: [&[u8]; 6] = [b"a b", b"c,d", b"e\"f", b"g\nh", b"\r", b""];
-    assert!(rt; text.push(&fields).is_ok());
-    assert!(rt; text.push(&[b"".as_slice()]).is_ok());
-    assert!(rt; text.push(&[]).is_ok());
+    assert!(rt; write_record(&mut text, &fields).is_ok());
+    assert!(rt; write_record(&mut text, &[b"".as_slice()]).is_ok());
+    assert!(rt; write_record(&mut text, &[]).is_ok());
     let bytes = match text.into_bytes() {
         Ok(bytes) => bytes,
         Err(_) => return Err(Fail::from("memory")),
@@ -81,13 +89,12 @@ fn writes_records(rt: HostRuntime) -> Result<(), Fail> {
     Ok(())
 }
 
-// Field by field, with a whole record before the open one, and the open record left out at the end.
+// Each kind of field, and the open record left out at the end.
 #[test]
 fn writes_fields(rt: HostRuntime) -> Result<(), Fail> {
     let mut text = Text::new(rt.alloc());
     assert!(rt; text.word(b"c,d").is_ok());
     assert!(rt; text.number(18_446_744_073_709_551_615).is_ok());
-    assert!(rt; text.push(&[b"first".as_slice()]).is_ok());
     assert!(rt; text.fraction(Frac::whole(-7)).is_ok());
     assert!(rt; text.end().is_ok());
     assert!(rt; text.end().is_ok());
@@ -96,7 +103,7 @@ fn writes_fields(rt: HostRuntime) -> Result<(), Fail> {
         Ok(bytes) => bytes,
         Err(_) => return Err(Fail::from("memory")),
     };
-    let want = b"first\n\"c,d\",18446744073709551615,-7\n\"\"\n";
+    let want = b"\"c,d\",18446744073709551615,-7\n\"\"\n";
     assert!(rt; bytes.as_slice() == want.as_slice(), "{bytes:?}");
     Ok(())
 }

@@ -1,6 +1,6 @@
 //! Texts of records.
 
-ghost use Rattle.std.specs.Prelude.{◌≡◌, ◌↔◌, ◌++◌, ◌∷◌, [], false, IfOk, OnOk, IsErr, IsTrue, map, decimal};
+ghost use Rattle.std.specs.Prelude.{◌≡◌, ◌↔◌, ◌++◌, ◌∷◌, [], false, IfOk, OnOk, IsErr, IsTrue, decimal};
 ghost use Rattle.np_frac.specs.Fits.{Fits};
 ghost use Rattle.np_frac.specs.Text.{printed};
 ghost use Rattle.np_records.specs.Texts.{record_text};
@@ -124,28 +124,6 @@ impl Text {
             return Err(Memory);
         }
         self.row.clear();
-        Ok(())
-    }
-
-    /// Writes the record of these fields, before the one that is open. A record of no fields is
-    /// written as one empty field.
-    ///
-    /// `Memory` comes where memory ran out, and from then on. What the bytes are then is left open.
-    #[tactic(auto, unfolding(crate::specs::Texts::record_text))]
-    pub fn push(&mut self, fields: &[&[u8]]) -> Result<(), Memory>
-        ensures text { OnOk result
-            (self.new.bytes ≡ self.old.bytes ++ record_text (map (λ f. f.now) fields.now)) }
-        ensures fields { self.new.fields ≡ self.old.fields }
-        ensures failed { IsTrue self.new.failed ↔ IsErr result }
-        ensures stays_failed { IsTrue self.old.failed → IsErr result }
-    {
-        if self.failed {
-            return Err(Memory);
-        }
-        if self.writer.write_fields(fields).is_err() {
-            self.failed = true;
-            return Err(Memory);
-        }
         Ok(())
     }
 

@@ -1,8 +1,9 @@
 -- What a store of a piece holds. (This project's own.)
 use Rattle.std.specs.Prelude.{ℕ, ◌<◌, ◌^◌, ◌==◌, if◌then◌else◌, List, length, map}
+use Rattle.std.specs.List.{zip}
 use Rattle.np_frac.specs.Ratio.{Ratio}
 use Rattle.np_model.specs.declared.log.Mark.{Mark}
-use Rattle.np_model.specs.Basis.Pieces.{PieceLists, IsStored}
+use Rattle.np_model.specs.Basis.Pieces.{PieceLists, nodes_in, IsStored}
 
 -- the lists of a piece, or of none, and how many nodes, each with a basic arc, and how many marks more fit in them without memory
 pub record Store : Type 0 where
@@ -24,6 +25,9 @@ put_beside number x entries = map (λ entry. if entry.0 == number then (number, 
 -- what the lists become with another potential, flow or mark
 abbrev pub with_potential : PieceLists → ℕ → Ratio → PieceLists
 with_potential lists node value = record { nodes = put_beside node value lists.nodes; basics = lists.basics; marks = lists.marks }
+
+abbrev pub with_potentials : PieceLists → List Ratio → PieceLists
+with_potentials lists values = record { nodes = zip (nodes_in lists) values; basics = lists.basics; marks = lists.marks }
 
 abbrev pub with_flow : PieceLists → ℕ → Ratio → PieceLists
 with_flow lists arc value = record {

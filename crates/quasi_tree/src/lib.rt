@@ -5,6 +5,7 @@
 mod lists;
 mod place;
 mod quasi;
+mod start;
 
 pub use lists::{FlowList, Lists, MarkList, NodeList};
 pub use quasi::Quasi;

@@ -1,6 +1,7 @@
-//! Look-ups in ascending lists, by binary search.
+//! Look-ups in ascending lists, by binary search, and other values beside the numbers of a list.
 
-ghost use Rattle.std.specs.Prelude.{map};
+ghost use Rattle.std.specs.Prelude.{◌≡◌, length, map};
+ghost use Rattle.std.specs.List.{zip};
 ghost use Rattle.std.specs.List.Sorted.{IsStrictlyIncreasing};
 ghost use Rattle.quasi_tree.specs.Place.{IsPlace};
 
@@ -29,4 +30,16 @@ pub(crate) fn mark_place(marks: &[(u32, Mark)], arc: u32) -> Option<usize>
     ensures { IsPlace (λ m. m.0) marks.now arc result }
 {
     marks.binary_search_by_key(&arc, |entry| entry.0).ok()
+}
+
+/// Puts these values beside the numbers of a list, in order.
+pub(crate) fn put_values(entries: &mut Vec<(u32, Frac)>, values: &[Frac])
+    requires { length values.now ≡ length entries.old.items }
+    ensures items { entries.new.items ≡ zip (map (λ n. n.0) entries.old.items) values.now }
+    ensures length { entries.new.len ≡ entries.old.len }
+    ensures capacity { entries.new.cap ≡ entries.old.cap }
+{
+    for place in 0..values.len() {
+        entries[place].1 = values[place];
+    }
 }

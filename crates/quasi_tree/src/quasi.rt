@@ -1,6 +1,6 @@
 //! A piece in its store.
 
-use crate::lists::Lists;
+use crate::lists::{Lists, MarkList};
 use std::marker::Model;
 
 /// A piece of an augmented forest, or an empty store for one. It keeps the shape of its lists and no more: that they ascend, that nodes and
@@ -27,9 +27,10 @@ ghost use Rattle.np_model.specs.declared.log.Mark.TheVariants as marked;
 ghost use Rattle.np_model.specs.Basis.Pieces.{nodes_in, basics_in, marked_in, least_node, beside, marks_of, flows_of, IsVacant};
 ghost use Rattle.np_model.specs.Basis.Phases.{network_of};
 ghost use Rattle.np_model.specs.Basis.Starts.{artificial_ends, start_flows, start_piece};
-ghost use Rattle.quasi_tree.specs.Store.{IsHeld, with_potential, with_flow, with_mark};
+ghost use Rattle.quasi_tree.specs.Store.{IsHeld, with_potential, with_potentials, with_flow, with_mark};
 
-use crate::place::{basic_place, mark_place, node_place};
+use crate::place::{basic_place, mark_place, node_place, put_values};
+use crate::start::{basic_alone, marks_at, node_alone, start_potential};
 use np_frac::{Frac, Memory};
 use np_model::{Mark, Piece, StartBasis};
 use std::alloc::Global;
@@ -116,6 +117,40 @@ impl Quasi {
         if let Some(place) = mark_place(self.lists.marks.items.as_slice(), arc) {
             self.lists.marks.items[place] = (arc, mark);
         }
+    }
+
+    /// Gives each node of the piece another potential: the values are those of the nodes in their order.
+    pub fn set_potentials(&mut self, values: &[Frac])
+        requires { length values.now ≡ length self.old.lists.nodes }
+        ensures lists { self.new.lists ≡ with_potentials self.old.lists values.now }
+        ensures nodes_fit { self.new.node_spare ≡ self.old.node_spare }
+        ensures marks_fit { self.new.mark_spare ≡ self.old.mark_spare }
+    {
+        put_values(&mut self.lists.nodes.items, values);
+    }
+
+    /// The piece of a node at the start: it stands alone with its artificial arc, and each arc that touches it is at its lower bound. The
+    /// potential is 1 where that arc is a drain, and -1 where it is a feed. Takes time in proportion to the arcs.
+    pub fn single(alloc: Global, start: &StartBasis, node: u32) -> Result<Quasi, Memory>
+        requires is_node { node < length start.now.full.net.supply }
+        requires artificial { start.now.full.artificial ≡ artificial_ends (network_of start.now.full.net) }
+        requires flows { start.now.flows ≡ start_flows (network_of start.now.full.net) }
+        ensures { IfOk result (λ piece. piece.lists ≡ start_piece (network_of start.now.full.net) node) }
+    {
+        let real = start.full.net.arcs.items.len();
+        let potential = start_potential(&start.full.artificial.items[node as usize]);
+        let nodes = node_alone(alloc, node, potential)?;
+        let ends = start.full.artificial.items[node as usize];
+        let flow = start.flows.items[real + node as usize];
+        let basics = basic_alone(alloc, real as u32 + node, ends, flow)?;
+        let marks = marks_at(alloc, start.full.net.arcs.as_slice(), node)?;
+        Ok(Quasi {
+            lists: Lists {
+                nodes,
+                basics,
+                marks: MarkList { items: marks },
+            },
+        })
     }
 
     /// An empty store with room for so many nodes, each with a basic arc, and so many marks.

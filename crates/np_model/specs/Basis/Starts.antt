@@ -68,5 +68,5 @@ abbrev pub start_piece : Network → ℕ → PieceLists
 start_piece net v = record {
   nodes = (v, start_potential net v) ∷ [];
   basics = (length net.arcs + v, artificial_end net v, artificial_flow net v) ∷ [];
-  marks = map (λ a. (a, Lower)) (filter (λ a. touches (ends_at net.arcs a) v) (range_with_len 0 (length net.arcs)));
+  marks = filter (λ m. touches (ends_at net.arcs m.0) v) (map (λ a. (a, Lower)) (range_with_len 0 (length net.arcs)));
 }

@@ -135,7 +135,7 @@ module _ (ends : ℕ → Ends) (d : ℕ → Ratio) where
     FitsExtra (Round k []) = ⊤
     FitsExtra (Round k (first ∷ way)) = (sum : ℕ → Ratio) × ((a v : ℕ) → IsIn (a, v) (first ∷ way) → HasSum v (sum v))
         × (IsTouched (first ∷ way) sum → (amount : Ratio) × (first_amount sum k first way ≡ Ok amount)
-          × ((before after : List (ℕ × ℕ)) → before ++ after ≡ way → IsOk (mixed_along sum first before amount)))
+        × ((before after : List (ℕ × ℕ)) → before ++ after ≡ way → IsOk (mixed_along sum first before amount)))
 
     -- no operation of the rows overflows
     pub record FitsRows : Type 0 where

@@ -3,7 +3,6 @@ use Rattle.std.specs.Prelude.{◌≡◌, ◌⊎◌, ℕ, List, [], ◌∷◌, �
 use Rattle.gain_graphs.specs.Arcs.{IsIn, AreJoined}
 use Rattle.gain_graphs.specs.Cycles.{arcs_along, nodes_along, Joins, IsLeastFirst}
 use Rattle.np_model.specs.declared.arc.Ends.{Ends}
-use Rattle.np_model.specs.declared.arc.Ends.TheVariants.{Link, Drain, Feed}
 use Rattle.np_model.specs.Basis.Graphs.{graph_of}
 use Rattle.np_model.specs.Basis.Artificial.{IsOneEndAt}
 

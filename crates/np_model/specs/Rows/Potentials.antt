@@ -1,6 +1,6 @@
 -- The rows A3 and A7 for the potentials of a piece: the operations, and those of them that are reached. Potentials along a tree and round a
 -- cycle are those of Ahuja, Magnanti and Orlin, Network Flows, chapter 15.
-use Rattle.std.specs.Prelude.{◌≡◌, ◌⊎◌, ℕ, ◌==◌, if◌then◌else◌, List, [], ◌∷◌, Result, Ok, Err}
+use Rattle.std.specs.Prelude.{◌≡◌, ℕ, ◌==◌, if◌then◌else◌, List, [], ◌∷◌, Result, Ok, Err}
 use Rattle.std.specs.Result.{IsOk}
 use Rattle.np_frac.specs.Ratio.{Ratio, zero_ratio, one_ratio, negated}
 use Rattle.np_frac.specs.Exact.{plus_of, minus_of, times_of, over_of, ◌▷◌}

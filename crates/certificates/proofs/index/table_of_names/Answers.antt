@@ -1,6 +1,6 @@
 use Rattle.std.proofs.Common.{◌≡◌, None, ℕ, List, take, sym, subst}
 use Rattle.np_records.specs.Names.{place_of}
-use Rattle.certificates.proofs.NameTables.{absent-before}
+use Rattle.np_records.proofs.Places.{absent-before}
 use Rattle.certificates.proofs.index.table_of_names.Goals as goal
 
 pub push-requires : goal.push-requires

@@ -1,6 +1,6 @@
 use Rattle.std.proofs.Common.{rules, arith, ◌≡◌, ◌*◌, ◌/◌, ◌^◌}
 use Rattle.net_csv.specs.AmountText.{billionths}
-use Rattle.net_csv.proofs.AmountTexts.{has_billionths}
+use Rattle.np_frac.proofs.AmountTexts.{has_billionths}
 use Rattle.net_csv.proofs.amounts.billionths.Goals as goal
 
 pub overflow_mul-result : goal.overflow_mul-result

@@ -1,5 +1,5 @@
 use Rattle.std.proofs.Common.{rules}
-use Rattle.net_csv.proofs.AmountTexts.{decimal_if_not_short}
+use Rattle.np_frac.proofs.AmountTexts.{decimal_if_not_short}
 use Rattle.net_csv.proofs.amounts.write_amount.Goals as goal
 
 pub write_decimals-requires : goal.write_decimals-requires
