@@ -3,3 +3,4 @@ pub mod Results
 pub mod Rounds
 pub mod Carried
 pub mod Whole
+pub mod Settings

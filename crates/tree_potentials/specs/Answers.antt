@@ -4,6 +4,8 @@ use Rattle.gain_graphs.specs.Arcs.{IsIn}
 use Rattle.np_frac.specs.Ratio.{Ratio, zero_ratio}
 use Rattle.np_frac.specs.Fits.{Fits}
 use Rattle.np_frac.specs.declared.frac.Past.{Past}
+use Rattle.np_model.specs.declared.arc.Ends.{Ends}
+use Rattle.np_model.specs.declared.log.Mark.{Mark}
 use Rattle.np_model.specs.declared.rows.Row.{Row}
 use Rattle.np_model.specs.declared.rows.Overflow.{Overflow}
 use Rattle.np_model.specs.declared.rows.Place.TheVariants.{Turn}
@@ -15,6 +17,10 @@ use Rattle.np_model.specs.Rows.Potentials.{PotentialsFit, PotentialsGive}
 use Rattle.np_basis.specs.Laws.{ArePriced}
 use Rattle.tree_potentials.specs.declared.refusal.PotentialRefusal.{PotentialRefusal}
 use Rattle.tree_potentials.specs.declared.refusal.PotentialRefusal.TheVariants as refusal
+
+-- the piece with these nodes, basic arcs and marks
+abbrev pub piece_of : List (ℕ × Ratio) → List (ℕ × Ends × Ratio) → List (ℕ × Mark) → PieceLists
+piece_of nodes basics marks = record { nodes = nodes; basics = basics; marks = marks }
 
 -- with the potentials that stand in the piece each of its basic arcs has the reduced cost 0; they fit, and no operation of the rows overflows
 pub record HasPotentials (net : Network) (piece : PieceLists) : Type 0 where

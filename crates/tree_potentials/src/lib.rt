@@ -9,4 +9,5 @@ mod setting;
 
 
 pub use refusal::PotentialRefusal;
+pub use setting::potentials;
 
