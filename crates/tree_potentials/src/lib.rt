@@ -7,7 +7,5 @@ mod refusal;
 mod rows;
 mod setting;
 
-
 pub use refusal::PotentialRefusal;
 pub use setting::potentials;
-
