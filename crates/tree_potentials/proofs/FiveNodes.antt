@@ -1,5 +1,5 @@
 -- Five nodes with a cycle of three links and two links that hang off it: a piece of their network, for the tests.
-use Rattle.std.specs.Prelude.{◌≡◌, ◌≢◌, ◌⊎◌, ◌↔◌, ◌<◌, ◌≤◌, ◌-◌, ◌^◌, ℕ, zero, suc, List, [], ◌∷◌, map, length, slice_index_or}
+use Rattle.std.specs.Prelude.{◌≡◌, ◌≢◌, ◌⊎◌, ◌↔◌, ◌&&◌, true, ◌<◌, ◌≤◌, ◌-◌, ◌^◌, ℕ, zero, suc, List, [], ◌∷◌, map, length, slice_index_or}
 use Rattle.std.specs.List.{All}
 use Rattle.std.proofs.Common.{refl, sym, ap, subst, ◌∙◌, inl, inr, arith}
 use Rattle.gain_graphs.specs.Arcs as graph
@@ -7,8 +7,9 @@ use Rattle.gain_graphs.specs.Arcs.{IsIn, AreDistinct, Touches, AreJoined, Along,
 use Rattle.gain_graphs.specs.QuasiTrees.{LiesIn, IsQuasiTree}
 use Rattle.gain_graphs.proofs.Walks.{joined_sym, joined_trans}
 use Rattle.gain_graphs.proofs.Algebra as algebra
-use Rattle.np_frac.specs.Ratio.{Ratio, zero_ratio, one_ratio, inverse, ◌*ᵣ◌, ◌<ᵣ◌}
-use Rattle.np_frac.proofs.RatioLaws.{*ᵣ_assoc, *ᵣ_comm, one-*ᵣ, clash, ≤ᵣ_same}
+use Rattle.np_frac.specs.Ratio.{Ratio, zero_ratio, one_ratio, inverse, is_below, ◌*ᵣ◌, ◌<ᵣ◌}
+use Rattle.np_frac.proofs.RatioLaws.{*ᵣ_assoc, *ᵣ_comm, one-*ᵣ, clash, ≤ᵣ_same, is_below_true}
+use Rattle.np_frac.proofs.Exactness.{left_true, right_true}
 use Rattle.np_frac.proofs.Field.{*ᵣ-one}
 use Rattle.np_model.specs.declared.arc.Ends.{Ends}
 use Rattle.np_model.specs.declared.arc.Ends.TheVariants.{Link, Drain, Feed}
@@ -61,6 +62,15 @@ low_ascends = ((λ u. elim [ inl e ↦ omega arith | inr i ↦ elim i [ inl e �
 high_ascends : Ascends high
 high_ascends = ((λ u. elim [ inl e ↦ omega arith | inr i ↦ elim i [ inl e ↦ omega arith | inr i ↦ elim i [ inl e ↦ omega arith | inr i ↦ elim i [ inl e ↦ omega arith | inr i ↦ absurd i ] ] ] ]), ((λ u. elim [ inl e ↦ omega arith | inr i ↦ elim i [ inl e ↦ omega arith | inr i ↦ elim i [ inl e ↦ omega arith | inr i ↦ absurd i ] ] ]), ((λ u. elim [ inl e ↦ omega arith | inr i ↦ elim i [ inl e ↦ omega arith | inr i ↦ absurd i ] ]), ((λ u. elim [ inl e ↦ omega arith | inr i ↦ absurd i ]), ((λ u i. absurd i), record {})))))
 
+-- the gains are above 0, and the cycle is not breakeven
+pub record AreSuited (g0 g1 g2 g3 g4 : Ratio) : Type 0 where
+  pub first : zero_ratio <ᵣ g0
+  pub second : zero_ratio <ᵣ g1
+  pub third : zero_ratio <ᵣ g2
+  pub fourth : zero_ratio <ᵣ g3
+  pub fifth : zero_ratio <ᵣ g4
+  pub apart : g0 *ᵣ g2 ≢ g1
+
 module _ (g0 g1 g2 g3 g4 : Ratio) (c0 c1 c2 c3 c4 : Ratio) where
   abbrev pub links : List NetArc
   links = link 0 1 g0 c0 ∷ link 2 1 g1 c1 ∷ link 2 0 g2 c2 ∷ link 3 1 g3 c3 ∷ link 3 4 g4 c4 ∷ []
@@ -75,16 +85,7 @@ module _ (g0 g1 g2 g3 g4 : Ratio) (c0 c1 c2 c3 c4 : Ratio) where
   abbrev graph_links : List (graph.Ends Ratio)
   graph_links = graph.Link 0 1 g0 ∷ graph.Link 2 1 g1 ∷ graph.Link 2 0 g2 ∷ graph.Link 3 1 g3 ∷ graph.Link 3 4 g4 ∷ []
 
-  -- the gains are above 0, and the cycle is not breakeven
-  pub record AreSuited : Type 0 where
-    pub first : zero_ratio <ᵣ g0
-    pub second : zero_ratio <ᵣ g1
-    pub third : zero_ratio <ᵣ g2
-    pub fourth : zero_ratio <ᵣ g3
-    pub fifth : zero_ratio <ᵣ g4
-    pub apart : g0 *ᵣ g2 ≢ g1
-
-  module _ (suited : AreSuited) where
+  module _ (suited : AreSuited g0 g1 g2 g3 g4) where
     above : (g : Ratio) → zero_ratio <ᵣ g → g ≢ zero_ratio
     above g h e = clash h (≤ᵣ_same e)
 
@@ -213,11 +214,23 @@ module _ (g0 g1 g2 g3 g4 : Ratio) (c0 c1 c2 c3 c4 : Ratio) where
     -- in either phase
     pub in_net : (phase : Phase) → IsInNet (with_artificial phase (record { supply = zeros; arcs = links }) drains) piece
     in_net One = in_any (with_artificial One (record { supply = zeros; arcs = links }) drains) (record {
-      nodes = refl; arcs = refl; end0 = refl; end1 = refl; end2 = refl; end3 = refl; end4 = refl;
+      nodes = refl;
+      arcs = refl;
+      end0 = refl;
+      end1 = refl;
+      end2 = refl;
+      end3 = refl;
+      end4 = refl;
       others = drained (with_artificial One (record { supply = zeros; arcs = links }) drains) refl refl refl refl refl;
     })
     in_net Two = in_any (with_artificial Two (record { supply = zeros; arcs = links }) drains) (record {
-      nodes = refl; arcs = refl; end0 = refl; end1 = refl; end2 = refl; end3 = refl; end4 = refl;
+      nodes = refl;
+      arcs = refl;
+      end0 = refl;
+      end1 = refl;
+      end2 = refl;
+      end3 = refl;
+      end4 = refl;
       others = drained (with_artificial Two (record { supply = zeros; arcs = links }) drains) refl refl refl refl refl;
     })
 
@@ -231,3 +244,37 @@ drains_are_artificial = record { one_each = refl; at_nodes = each }
     each (suc (suc (suc zero))) other l = refl
     each (suc (suc (suc (suc zero)))) other l = refl
     each (suc (suc (suc (suc (suc v))))) other l = absurd (omega arith)
+
+-- what the fixture tests
+pub suits : (g0 g1 g2 g3 g4 : Ratio) → (is_below zero_ratio g0 && is_below zero_ratio g1 && is_below zero_ratio g2 && is_below zero_ratio g3 && is_below zero_ratio g4) ≡ true → g0 *ᵣ g2 ≢ g1 → AreSuited g0 g1 g2 g3 g4
+suits g0 g1 g2 g3 g4 all apart =
+    let l4 = left_true (is_below zero_ratio g0 && is_below zero_ratio g1 && is_below zero_ratio g2 && is_below zero_ratio g3) (is_below zero_ratio g4) all in
+    let l3 = left_true (is_below zero_ratio g0 && is_below zero_ratio g1 && is_below zero_ratio g2) (is_below zero_ratio g3) l4 in
+    let l2 = left_true (is_below zero_ratio g0 && is_below zero_ratio g1) (is_below zero_ratio g2) l3 in
+    record {
+      first = is_below_true zero_ratio g0 (left_true (is_below zero_ratio g0) (is_below zero_ratio g1) l2);
+      second = is_below_true zero_ratio g1 (right_true (is_below zero_ratio g0) (is_below zero_ratio g1) l2);
+      third = is_below_true zero_ratio g2 (right_true (is_below zero_ratio g0 && is_below zero_ratio g1) (is_below zero_ratio g2) l3);
+      fourth = is_below_true zero_ratio g3 (right_true (is_below zero_ratio g0 && is_below zero_ratio g1 && is_below zero_ratio g2) (is_below zero_ratio g3) l4);
+      fifth = is_below_true zero_ratio g4 (right_true (is_below zero_ratio g0 && is_below zero_ratio g1 && is_below zero_ratio g2 && is_below zero_ratio g3) (is_below zero_ratio g4) all);
+      apart = apart;
+    }
+
+-- lists that are those of the piece
+pub is_piece : (g0 g1 g2 g3 g4 c0 c1 c2 c3 c4 : Ratio) (l : PieceLists) → l.nodes ≡ (piece g0 g1 g2 g3 g4 c0 c1 c2 c3 c4).nodes → l.basics ≡ (piece g0 g1 g2 g3 g4 c0 c1 c2 c3 c4).basics
+    → l.marks ≡ (piece g0 g1 g2 g3 g4 c0 c1 c2 c3 c4).marks → l ≡ piece g0 g1 g2 g3 g4 c0 c1 c2 c3 c4
+is_piece g0 g1 g2 g3 g4 c0 c1 c2 c3 c4 l a b c =
+    let p = piece g0 g1 g2 g3 g4 c0 c1 c2 c3 c4 in
+    let e : (l.nodes, l.basics, l.marks) ≡ (p.nodes, p.basics, p.marks) = rw (a, b, c) refl in ap made e
+  where
+    made : List (ℕ × Ratio) × List (ℕ × Ends × Ratio) × List (ℕ × Mark) → PieceLists
+    made t = record { nodes = t.0; basics = t.1; marks = t.2 }
+
+-- and a network that is that of the links
+pub in_net_of : (g0 g1 g2 g3 g4 c0 c1 c2 c3 c4 : Ratio) → AreSuited g0 g1 g2 g3 g4 → (supply : List Ratio) (arcs : List NetArc) (artificial : List Ends) (l : PieceLists) → supply ≡ zeros → arcs ≡ links g0 g1 g2 g3 g4 c0 c1 c2 c3 c4
+    → artificial ≡ drains → l ≡ piece g0 g1 g2 g3 g4 c0 c1 c2 c3 c4 → (phase : Phase) → IsInNet (with_artificial phase (record { supply = supply; arcs = arcs }) artificial) l
+in_net_of g0 g1 g2 g3 g4 c0 c1 c2 c3 c4 s supply arcs artificial l a b d e phase =
+    subst (λ t. IsInNet (with_artificial phase (record { supply = t; arcs = arcs }) artificial) l) (sym a)
+    (subst (λ t. IsInNet (with_artificial phase (record { supply = zeros; arcs = t }) artificial) l) (sym b)
+    (subst (λ t. IsInNet (with_artificial phase (record { supply = zeros; arcs = links g0 g1 g2 g3 g4 c0 c1 c2 c3 c4 }) t) l) (sym d)
+    (subst (λ t. IsInNet (with_artificial phase (record { supply = zeros; arcs = links g0 g1 g2 g3 g4 c0 c1 c2 c3 c4 }) drains) t) (sym e) (in_net g0 g1 g2 g3 g4 c0 c1 c2 c3 c4 s phase))))

@@ -9,3 +9,6 @@ mod setting;
 
 pub use refusal::PotentialRefusal;
 pub use setting::potentials;
+
+#[cfg(test)]
+mod tests;
