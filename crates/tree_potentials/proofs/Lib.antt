@@ -1,0 +1,8 @@
+pub mod Links
+pub mod Results
+pub mod Rounds
+pub mod Carried
+pub mod Whole
+pub mod Settings
+pub mod FiveNodes
+pub mod OneNode
