@@ -21,7 +21,7 @@ use Rattle.np_model.specs.Rows.Extra.{Round}
 use Rattle.np_model.specs.Rows.Potentials as rows
 use Rattle.np_model.specs.Rows.Potentials.{across, scaled_across}
 use Rattle.tree_search.specs.declared.piece.Step.{Step}
-use Rattle.tree_search.specs.Places.{nodes_in, number_at, ends_at}
+use Rattle.tree_search.specs.Places.{numbers_of_nodes, number_by_place, ends_by_place}
 use Rattle.tree_search.specs.Finding.{Follows, way_of}
 use Rattle.tree_potentials.specs.Along.{IsWithin, overflow_at_turn, in_row, product_of, over_step, potential_of, divisor_of, root_of}
 use Rattle.tree_potentials.proofs.Links.{Crosses, parts_across, over_times}
@@ -60,34 +60,34 @@ module _ (ends : ℕ → Ends) (cost : ℕ → Ratio) (nodes own : List ℕ) (p 
 -- ---- by places
 
 module _ (ends : ℕ → Ends) (cost : ℕ → Ratio) (nodes : List (ℕ × Ratio)) (basics : List (ℕ × Ends × Ratio)) (costs : List Ratio)
-    (of : (a : ℕ) → a < length basics → (ends (number_at basics a) ≡ ends_at basics a) × (cost (number_at basics a) ≡ at costs a)) where
+    (of : (a : ℕ) → a < length basics → (ends (number_by_place basics a) ≡ ends_by_place basics a) × (cost (number_by_place basics a) ≡ at costs a)) where
   abbrev way : List Step → List (ℕ × ℕ)
-  way cycle = way_of (nodes_in nodes) basics cycle
+  way cycle = way_of (numbers_of_nodes nodes) basics cycle
 
   -- the operation over a step is that over its arc
-  pub step_is : (s : Step) (u : ℕ) (q : Ratio) → IsWithin nodes basics s → slice_index (nodes_in nodes) s.near ≡ u
-      → over_step nodes basics costs s q ≡ across (ends (number_at basics s.arc)) (cost (number_at basics s.arc)) u q
+  pub step_is : (s : Step) (u : ℕ) (q : Ratio) → IsWithin nodes basics s → slice_index (numbers_of_nodes nodes) s.near ≡ u
+      → over_step nodes basics costs s q ≡ across (ends (number_by_place basics s.arc)) (cost (number_by_place basics s.arc)) u q
   step_is s u q within is =
       let o = of s.arc within.0 in
-      ap (λ e. across e (at costs s.arc) (slice_index (nodes_in nodes) s.near) q) (sym o.0) ∙ ap₂ (λ c w. across (ends (number_at basics s.arc)) c w q) (sym o.1) is
+      ap (λ e. across e (at costs s.arc) (slice_index (numbers_of_nodes nodes) s.near) q) (sym o.0) ∙ ap₂ (λ c w. across (ends (number_by_place basics s.arc)) c w q) (sym o.1) is
 
-  product_is : (u : ℕ) (cycle : List Step) (b : Ratio) → Follows (nodes_in nodes) u cycle → ((s : Step) → IsIn s cycle → IsWithin nodes basics s)
+  product_is : (u : ℕ) (cycle : List Step) (b : Ratio) → Follows (numbers_of_nodes nodes) u cycle → ((s : Step) → IsIn s cycle → IsWithin nodes basics s)
       → product_of nodes basics cycle b ≡ rows.product_along ends cost u (way cycle) b
   product_is u [] b f within = refl
   product_is u (s ∷ cycle) b f within =
       ap (λ t. t ▷ product_of nodes basics cycle) (ap₂ (λ e w. scaled_across e w b) (sym (of s.arc (within s (inl refl)).0).0) f.0)
-      ∙ same_then (scaled_across (ends (number_at basics s.arc)) u b) (product_of nodes basics cycle) (rows.product_along ends cost (slice_index (nodes_in nodes) s.far) (way cycle))
-      (λ x. product_is (slice_index (nodes_in nodes) s.far) cycle x f.1 (λ t i. within t (inr i)))
+      ∙ same_then (scaled_across (ends (number_by_place basics s.arc)) u b) (product_of nodes basics cycle) (rows.product_along ends cost (slice_index (numbers_of_nodes nodes) s.far) (way cycle))
+      (λ x. product_is (slice_index (numbers_of_nodes nodes) s.far) cycle x f.1 (λ t i. within t (inr i)))
 
-  potential_is : (u : ℕ) (cycle : List Step) (q : Ratio) → Follows (nodes_in nodes) u cycle → ((s : Step) → IsIn s cycle → IsWithin nodes basics s)
+  potential_is : (u : ℕ) (cycle : List Step) (q : Ratio) → Follows (numbers_of_nodes nodes) u cycle → ((s : Step) → IsIn s cycle → IsWithin nodes basics s)
       → potential_of nodes basics costs cycle q ≡ rows.potential_along ends cost u (way cycle) q
   potential_is u [] q f within = refl
   potential_is u (s ∷ cycle) q f within =
       ap (λ t. t ▷ potential_of nodes basics costs cycle) (step_is s u q (within s (inl refl)) f.0)
-      ∙ same_then (across (ends (number_at basics s.arc)) (cost (number_at basics s.arc)) u q) (potential_of nodes basics costs cycle) (rows.potential_along ends cost (slice_index (nodes_in nodes) s.far) (way cycle))
-      (λ x. potential_is (slice_index (nodes_in nodes) s.far) cycle x f.1 (λ t i. within t (inr i)))
+      ∙ same_then (across (ends (number_by_place basics s.arc)) (cost (number_by_place basics s.arc)) u q) (potential_of nodes basics costs cycle) (rows.potential_along ends cost (slice_index (numbers_of_nodes nodes) s.far) (way cycle))
+      (λ x. potential_is (slice_index (numbers_of_nodes nodes) s.far) cycle x f.1 (λ t i. within t (inr i)))
 
-  module _ (k : ℕ) (cycle : List Step) (f : Follows (nodes_in nodes) k cycle) (within : (s : Step) → IsIn s cycle → IsWithin nodes basics s) where
+  module _ (k : ℕ) (cycle : List Step) (f : Follows (numbers_of_nodes nodes) k cycle) (within : (s : Step) → IsIn s cycle → IsWithin nodes basics s) where
     pub divisor_is : divisor_of nodes basics cycle ≡ rows.divisor ends cost k (way cycle)
     divisor_is = ap (λ t. t ▷ minus_of one_ratio) (product_is k cycle one_ratio f within)
 

@@ -37,7 +37,7 @@ use Rattle.tree_search.specs.declared.piece.Joint.{Joint}
 use Rattle.tree_search.specs.declared.piece.ExtraArc.{ExtraArc}
 use Rattle.tree_search.specs.declared.piece.ExtraArc.TheVariants as found
 use Rattle.tree_search.specs.declared.search.Search.{Search}
-use Rattle.tree_search.specs.Places.{loose, Stands, EndsStand, AreJoints, IsTree}
+use Rattle.tree_search.specs.Places.{loose, HasPlace, EndsHavePlaces, AreJoints, IsTree}
 use Rattle.tree_search.specs.Search.{IsSearch, IsClosed}
 use Rattle.tree_search.specs.Finding.{first_node, way_of, starts_of, IsFound}
 use Rattle.tree_search.proofs.Placed.{joints_below, placed}
@@ -178,13 +178,13 @@ module _ (full : FullNet) (phase : Phase) (nodes : List (ℕ × Ratio)) (basics 
       subst (λ e. LiesIn ratios (nodes_in piece) (graph_ends e)) (sym (h.basic (slice_index_or basics k d) i).1)
       (lies net piece h (slice_index_or basics k d).0 (in_map (λ (b : ℕ × Ends × Ratio). b.0) (slice_index_or basics k d) basics i))
 
-  pub stand_at : (k : ℕ) (d : ℕ × Ends × Ratio) → k < length basics → EndsStand (nodes_in piece) (slice_index_or basics k d).1
+  pub stand_at : (k : ℕ) (d : ℕ × Ends × Ratio) → k < length basics → EndsHavePlaces (nodes_in piece) (slice_index_or basics k d).1
   stand_at k d l = go (slice_index_or basics k d).1 (lies_at k d l)
     where
-      stands : (v : ℕ) → IsIn v (nodes_in piece) → Stands (nodes_in piece) v
+      stands : (v : ℕ) → IsIn v (nodes_in piece) → HasPlace (nodes_in piece) v
       stands v i = let r = at_of v (nodes_in piece) i in (r.0, (r.1, r.2))
 
-      go : (e : Ends) → LiesIn ratios (nodes_in piece) (graph_ends e) → EndsStand (nodes_in piece) e
+      go : (e : Ends) → LiesIn ratios (nodes_in piece) (graph_ends e) → EndsHavePlaces (nodes_in piece) e
       go (Link i j g) l = (stands i l.0, stands j l.1)
       go (Drain i) l = stands i l
       go (Feed i) l = stands i l

@@ -34,7 +34,7 @@ use Rattle.tree_search.specs.declared.piece.Joint.{Joint}
 use Rattle.tree_search.specs.declared.piece.ExtraArc.{ExtraArc}
 use Rattle.tree_search.specs.declared.piece.ExtraArc.TheVariants as found
 use Rattle.tree_search.specs.declared.search.Search.{Search}
-use Rattle.tree_search.specs.Places.{number_at, ends_at, blank, loose, AreEndsOf, AreJoints, IsTree}
+use Rattle.tree_search.specs.Places.{number_by_place, ends_by_place, blank, loose, AreEndsOf, AreJoints, IsTree}
 use Rattle.tree_search.specs.Search.{fars, IsSearch, IsClosed}
 use Rattle.tree_search.specs.Finding.{first_node, way_of, as_extra, starts_of, IsFound, IsPlaced}
 use Rattle.tree_search.specs.Outwards.{AreOutwards}
@@ -97,7 +97,7 @@ module _ (net : Network) (piece : PieceLists) (sound : HasSoundArcs net) (h : Is
   pub once : (i j : ℕ) → i < length piece.nodes → j < length piece.nodes → node i ≡ node j → i ≡ j
   once i j l m = one_place (nodes_in piece) h.shape.nodes_ascend i j (subst (λ n. i < n) (sym (length_map (λ (n : ℕ × Ratio). n.0) piece.nodes)) l) (subst (λ n. j < n) (sym (length_map (λ (n : ℕ × Ratio). n.0) piece.nodes)) m)
 
-  pub of : (a : ℕ) → a < length piece.basics → (ends (number_at piece.basics a) ≡ ends_at piece.basics a) × (cost (number_at piece.basics a) ≡ at (costs_in cost piece.basics) a)
+  pub of : (a : ℕ) → a < length piece.basics → (ends (number_by_place piece.basics a) ≡ ends_by_place piece.basics a) × (cost (number_by_place piece.basics a) ≡ at (costs_in cost piece.basics) a)
   of a l = (ends_is ends piece.basics of_ends a l, sym (get_or-map (λ (b : ℕ × Ends × Ratio). cost b.0) piece.basics a blank zero_ratio l))
 
   -- its potentials
@@ -215,13 +215,13 @@ module _ (net : Network) (piece : PieceLists) (sound : HasSoundArcs net) (h : Is
         place = (slice_index_or joints arc loose).from
 
         value : Ratio
-        value = rows.end_potential (ends_at piece.basics arc) (at costs arc)
+        value = rows.end_potential (ends_by_place piece.basics arc) (at costs arc)
 
         start : List Ratio
         start = slice_set zeros place value
 
         x' : Extra
-        x' = OneEnd (number_at piece.basics arc) (node place)
+        x' = OneEnd (number_by_place piece.basics arc) (node place)
 
         extra_is : IsExtra ends own x'
         extra_is = is_extra joints are (found.OneEnd arc) is n search is_search closed
@@ -236,7 +236,7 @@ module _ (net : Network) (piece : PieceLists) (sound : HasSoundArcs net) (h : Is
         value_is =
             let o = of arc is.laid_out.0 in
             ap₂ (λ e c. rows.end_potential e c) (sym o.0) (sym o.1)
-            ∙ end_is (ends (number_at piece.basics arc)) (cost (number_at piece.basics arc)) potential (node place) extra_is.1 (pull (number_at piece.basics arc) extra_is.0)
+            ∙ end_is (ends (number_by_place piece.basics arc)) (cost (number_by_place piece.basics arc)) potential (node place) extra_is.1 (pull (number_by_place piece.basics arc) extra_is.0)
 
         goes : carried.GoesOut ends cost piece.nodes piece.basics costs x' potential of once joins crosses (node place ∷ []) search.steps.items
         goes = carried.search_goes ends cost piece.nodes piece.basics costs x' potential of once joins crosses joints search.steps.items (place ∷ []) (node place ∷ [])

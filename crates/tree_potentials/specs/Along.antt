@@ -17,7 +17,7 @@ use Rattle.tree_search.specs.declared.piece.Step.{Step}
 use Rattle.tree_search.specs.declared.piece.Joint.{Joint}
 use Rattle.tree_search.specs.declared.piece.ExtraArc.{ExtraArc}
 use Rattle.tree_search.specs.declared.piece.ExtraArc.TheVariants as found
-use Rattle.tree_search.specs.Places.{nodes_in, ends_at, loose}
+use Rattle.tree_search.specs.Places.{numbers_of_nodes, ends_by_place, loose}
 
 -- ---- what the operations need
 
@@ -63,11 +63,11 @@ abbrev pub ◌▸◌ : {A B : Type 0} → Result A Overflow → (A → Result B 
 abbrev pub product_of : List (ℕ × Ratio) → List (ℕ × Ends × Ratio) → List Step → Ratio → Result Ratio Past
 product_of nodes basics [] product = Ok product
 product_of nodes basics (s ∷ steps) product =
-    scaled_across (ends_at basics s.arc) (slice_index (nodes_in nodes) s.near) product ▷ product_of nodes basics steps
+    scaled_across (ends_by_place basics s.arc) (slice_index (numbers_of_nodes nodes) s.near) product ▷ product_of nodes basics steps
 
 -- the potential to which a step leads from this one
 abbrev pub over_step : List (ℕ × Ratio) → List (ℕ × Ends × Ratio) → List Ratio → Step → Ratio → Result Ratio Past
-over_step nodes basics costs s potential = across (ends_at basics s.arc) (at costs s.arc) (slice_index (nodes_in nodes) s.near) potential
+over_step nodes basics costs s potential = across (ends_by_place basics s.arc) (at costs s.arc) (slice_index (numbers_of_nodes nodes) s.near) potential
 
 -- the potential to which the steps lead from this one
 abbrev pub potential_of : List (ℕ × Ratio) → List (ℕ × Ends × Ratio) → List Ratio → List Step → Ratio → Result Ratio Past
@@ -113,7 +113,7 @@ CanWalkOff nodes basics joints (found.Round cycle) = (0 < length cycle.items) ×
 -- the potentials from the node of an arc with one end along these steps, written over those that stand there
 abbrev pub walk_off_end : List (ℕ × Ratio) → List (ℕ × Ends × Ratio) → List Ratio → List Joint → ℕ → List Step → List Ratio → Result (List Ratio) Overflow
 walk_off_end nodes basics costs joints arc steps values =
-    in_row A7 (spread nodes basics costs steps (slice_set values (slice_index_or joints arc loose).from (end_potential (ends_at basics arc) (at costs arc))))
+    in_row A7 (spread nodes basics costs steps (slice_set values (slice_index_or joints arc loose).from (end_potential (ends_by_place basics arc) (at costs arc))))
 
 -- the potentials round a cycle and then along these steps
 abbrev pub walk_off_cycle : List (ℕ × Ratio) → List (ℕ × Ends × Ratio) → List Ratio → List Step → List Step → List Ratio → Result (List Ratio) Overflow
@@ -128,5 +128,5 @@ walk_off nodes basics costs joints (found.Round cycle) steps values = walk_off_c
 
 -- what an arc with one end gives its node fits
 abbrev pub EndFits : List (ℕ × Ends × Ratio) → List Ratio → ExtraArc → Type 0
-EndFits basics costs (found.OneEnd arc) = Fits (end_potential (ends_at basics arc) (at costs arc))
+EndFits basics costs (found.OneEnd arc) = Fits (end_potential (ends_by_place basics arc) (at costs arc))
 EndFits basics costs (found.Round cycle) = ⊤

@@ -3,7 +3,7 @@
 ghost use Rattle.std.specs.Prelude.{◌≡◌, ◌<◌, ℕ, length, slice_index};
 ghost use Rattle.np_model.specs.Network.Flows.{at};
 ghost use Rattle.np_model.specs.Rows.Potentials.{across, scaled_across, end_potential};
-ghost use Rattle.tree_search.specs.Places.{nodes_in, ends_at};
+ghost use Rattle.tree_search.specs.Places.{numbers_of_nodes, ends_by_place};
 ghost use Rattle.tree_potentials.specs.Along.{HasGain, AreWalkable, IsWithin};
 
 use np_frac::{Frac, Past};
@@ -59,7 +59,7 @@ fn potential_at_end(ends: Ends, cost: Frac) -> Frac
 // The number of the node at a place.
 fn node_of(nodes: &[(u32, Frac)], place: u32) -> u32
     requires { place < length nodes.now }
-    ensures { result ≡ slice_index (nodes_in nodes.now) place }
+    ensures { result ≡ slice_index (numbers_of_nodes nodes.now) place }
 {
     nodes[place as usize].0
 }
@@ -80,7 +80,7 @@ impl<'a> Rows<'a> {
     pub(crate) fn potential_over(&self, step: Step, potential: Frac) -> Result<Frac, Past>
         requires walkable { AreWalkable self.now.basics.now self.now.costs.now }
         requires within { IsWithin self.now.nodes.now self.now.basics.now step }
-        ensures { result ≡ across (ends_at self.now.basics.now step.arc) (at self.now.costs.now step.arc) (slice_index (nodes_in self.now.nodes.now) step.near) potential }
+        ensures { result ≡ across (ends_by_place self.now.basics.now step.arc) (at self.now.costs.now step.arc) (slice_index (numbers_of_nodes self.now.nodes.now) step.near) potential }
     {
         let arc = step.arc as usize;
         potential_across(
@@ -95,7 +95,7 @@ impl<'a> Rows<'a> {
     pub(crate) fn product_over(&self, step: Step, product: Frac) -> Result<Frac, Past>
         requires walkable { AreWalkable self.now.basics.now self.now.costs.now }
         requires within { IsWithin self.now.nodes.now self.now.basics.now step }
-        ensures { result ≡ scaled_across (ends_at self.now.basics.now step.arc) (slice_index (nodes_in self.now.nodes.now) step.near) product }
+        ensures { result ≡ scaled_across (ends_by_place self.now.basics.now step.arc) (slice_index (numbers_of_nodes self.now.nodes.now) step.near) product }
     {
         product_across(
             self.basics[step.arc as usize].1,
@@ -108,7 +108,7 @@ impl<'a> Rows<'a> {
     pub(crate) fn potential_at(&self, arc: u32) -> Frac
         requires inside { arc < length self.now.basics.now }
         requires walkable { AreWalkable self.now.basics.now self.now.costs.now }
-        ensures value { result ≡ end_potential (ends_at self.now.basics.now arc) (at self.now.costs.now arc) }
+        ensures value { result ≡ end_potential (ends_by_place self.now.basics.now arc) (at self.now.costs.now arc) }
         ensures fits { Fits result }
     {
         let potential = potential_at_end(self.basics[arc as usize].1, self.costs[arc as usize]);

@@ -15,7 +15,7 @@ ghost use Rattle.np_model.specs.Basis.Phases.{phase_net, all_arcs};
 ghost use Rattle.np_model.specs.Network.Flows.{at};
 ghost use Rattle.np_model.specs.Rows.Potentials.{end_potential};
 ghost use Rattle.tree_search.specs.declared.piece.Joint.{Joint as TheJoint};
-ghost use Rattle.tree_search.specs.Places.{ends_at, number_at, loose};
+ghost use Rattle.tree_search.specs.Places.{ends_by_place, number_by_place, loose};
 ghost use Rattle.tree_potentials.specs.Answers.{piece_of, ArePotentials, HasPotentials, GivesPast, IsCause};
 ghost use Rattle.tree_potentials.specs.Along.{costs_in, AreWalkable, IsWithin, CanWalkOff, EndFits, divisor_of, spread, walk_off_end, walk_off_cycle, walk_off};
 
@@ -94,7 +94,7 @@ fn off_end(
     requires long { length potentials.items ≡ length rows.now.nodes.now }
     ensures walked { let answer = walk_off_end rows.now.nodes.now rows.now.basics.now rows.now.costs.now joints.now arc steps.now potentials.items in
         MatchResult result (λ found. answer ≡ Ok found.items) (λ overflow. answer ≡ Err overflow) }
-    ensures fits { Fits (end_potential (ends_at rows.now.basics.now arc) (at rows.now.costs.now arc)) }
+    ensures fits { Fits (end_potential (ends_by_place rows.now.basics.now arc) (at rows.now.costs.now arc)) }
 {
     let mut potentials = potentials;
     potentials[joints[arc as usize].from as usize] = rows.potential_at(arc);
