@@ -1,4 +1,4 @@
-use Rattle.std.proofs.Common.{◌≡◌, ◌∙◌, refl}
+use Rattle.std.proofs.Common.{◌∙◌, refl}
 use Rattle.tree_potentials.proofs.OneNode.{held_of}
 use Rattle.tree_potentials.proofs.tests.one_node.Goals as goal
 
