@@ -294,3 +294,16 @@ fn nodes_alone(rt: HostRuntime) -> Result<(), Fail> {
     assert!(rt; fed.piece.lists().nodes.items.as_slice() == [(0, Frac::whole(-1))].as_slice());
     Ok(())
 }
+
+// In stage two an artificial arc costs nothing.
+#[test]
+fn nodes_alone_in_stage_two(rt: HostRuntime) -> Result<(), Fail> {
+    let none = [(0, Frac::whole(0))];
+    let mut drained = one_node(rt.alloc(), &Ends::Drain(0))?;
+    assert!(rt; potentials(rt.alloc(), &drained.full, Phase::Two, &mut drained.piece).is_ok());
+    assert!(rt; drained.piece.lists().nodes.items.as_slice() == none.as_slice());
+    let mut fed = one_node(rt.alloc(), &Ends::Feed(0))?;
+    assert!(rt; potentials(rt.alloc(), &fed.full, Phase::Two, &mut fed.piece).is_ok());
+    assert!(rt; fed.piece.lists().nodes.items.as_slice() == none.as_slice());
+    Ok(())
+}
