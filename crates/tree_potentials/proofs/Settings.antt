@@ -1,13 +1,13 @@
 -- The potentials of a piece once they stand in it; and that the rows cannot give an overflow too.
-use Rattle.std.specs.Prelude.{◌≡◌, ◌≢◌, ◌<◌, ℕ, zero, suc, nat_eq, cond, Bool, true, false, List, [], ◌∷◌, map, length, slice_index, slice_index_or, Result, Ok, Err, pos, ⊤}
+use Rattle.std.specs.Prelude.{◌≡◌, ◌≢◌, ◌<◌, ℕ, zero, suc, nat_eq, cond, Bool, true, false, List, [], ◌∷◌, map, length, slice_index, slice_index_or, Result, Ok, Err, MatchResult, pos, ⊤}
 use Rattle.std.specs.List.{zip, All}
 use Rattle.std.specs.Result.{IsOk}
-use Rattle.std.proofs.Common.{refl, sym, ap, ap₂, subst, ◌∙◌, inl, inr, arith, eqb-true}
+use Rattle.std.proofs.Common.{refl, sym, ap, ap₂, subst, ◌∙◌, inl, inr, arith, eqb-true, eq-eqb, true≢false}
 use Rattle.std.proofs.lemmas.List.{length-map}
 use Rattle.gain_graphs.specs.Arcs.{IsIn}
 use Rattle.gain_graphs.specs.Cycles.{Joins}
 use Rattle.gain_graphs.specs.QuasiTrees.{LiesIn}
-use Rattle.gain_graphs.proofs.Lists.{length_map}
+use Rattle.gain_graphs.proofs.Lists.{in_map, length_map}
 use Rattle.np_frac.specs.Ratio as ratio
 use Rattle.np_frac.specs.Ratio.{Ratio, zero_ratio}
 use Rattle.np_frac.specs.Fits.{Fits}
@@ -27,10 +27,28 @@ use Rattle.np_model.specs.Rows.Extra.{Extra, Round, IsExtra, Leads}
 use Rattle.np_model.specs.Rows.Potentials as rows
 use Rattle.np_model.specs.Rows.Potentials.{across, FitsRows, Gives}
 use Rattle.np_basis.proofs.Trees.{lies, potentials_are_unique}
+use Rattle.np_basis.proofs.Fulls.{length_full, full_net_is_sound}
+use Rattle.np_basis.specs.Laws.{HasSoundArcs}
+use Rattle.np_model.specs.declared.network.FullNet.{FullNet}
+use Rattle.np_model.specs.declared.phase.Phase.{Phase}
+use Rattle.np_model.specs.declared.log.Mark.{Mark}
+use Rattle.np_model.specs.Basis.Phases.{phase_net, all_arcs}
+use Rattle.tree_search.specs.declared.piece.Step.{Step}
+use Rattle.tree_search.specs.declared.piece.Joint.{Joint}
+use Rattle.tree_search.specs.declared.piece.ExtraArc.{ExtraArc}
+use Rattle.tree_search.specs.declared.piece.ExtraArc.TheVariants as found
+use Rattle.tree_search.specs.declared.search.Search.{Search}
+use Rattle.tree_search.specs.Places.{loose, Stands, EndsStand, AreJoints, IsTree}
+use Rattle.tree_search.specs.Search.{IsSearch, IsClosed}
+use Rattle.tree_search.specs.Finding.{first_node, way_of, starts_of, IsFound}
+use Rattle.tree_search.proofs.Placed.{joints_below, placed}
+use Rattle.tree_search.proofs.Searches.{at_of}
 use Rattle.quasi_tree.specs.Store.{with_potentials}
-use Rattle.tree_potentials.specs.Answers.{ArePotentials, HasPotentials, GivesPast}
+use Rattle.tree_potentials.specs.Along.{costs_in, HasGain, AreWalkable, IsWithin, CanWalkOff, EndFits, walk_off}
+use Rattle.tree_potentials.specs.Answers.{piece_of, ArePotentials, HasPotentials, GivesPast, IsOverflow}
+use Rattle.tree_potentials.proofs.Rounds.{divisor_is}
 use Rattle.tree_potentials.proofs.Results.{ok_is, is_ok_of, err_not_ok, same_ok}
-use Rattle.tree_potentials.proofs.Whole.{leads_joins}
+use Rattle.tree_potentials.proofs.Whole.{leads_joins, of_ends, of, tree, apart, steps_within, walked}
 
 -- ---- values beside their nodes
 
@@ -45,20 +63,17 @@ Stand ns vs p = (i : ℕ) → i < length ns → at vs i ≡ p (slice_index ns i)
 rest_stand : (n : ℕ) (ns : List ℕ) (w : Ratio) (vs : List Ratio) (p : ℕ → Ratio) → Stand (n ∷ ns) (w ∷ vs) p → Stand ns vs p
 rest_stand n ns w vs p s i l = s (suc i) (omega arith)
 
+differ : (v n : ℕ) → nat_eq v n ≡ false → v ≡ n → ⊥
+differ v n m k = true≢false (sym (eq-eqb v n k) ∙ m)
+
 beside_zip : (ns : List ℕ) (vs : List Ratio) (p : ℕ → Ratio) → length vs ≡ length ns → Stand ns vs p → (v : ℕ) → IsIn v ns → beside zero_ratio (zip ns vs) v ≡ p v
 beside_zip [] vs p e s v i = absurd i
 beside_zip (n ∷ ns) [] p e s v i = absurd (omega (arith, e))
-beside_zip (n ∷ ns) (w ∷ vs) p e s v i = go (nat_eq v n) refl
+beside_zip (n ∷ ns) (w ∷ vs) p e s v i = go (nat_eq v n) refl (λ k. beside_zip ns vs p (omega (arith, e)) (rest_stand n ns w vs p s) v k)
   where
-    go : (b : Bool) → nat_eq v n ≡ b → cond b w (beside zero_ratio (zip ns vs) v) ≡ p v
-    go true m = s zero (omega arith) ∙ ap p (sym (eqb-true v n m))
-    go false m = elim i [
-      | inl k ↦ absurd (differ v n m k)
-      | inr k ↦ beside_zip ns vs p (omega (arith, e)) (rest_stand n ns w vs p s) v k
-    ]
-      where
-        differ : (v n : ℕ) → nat_eq v n ≡ false → v ≡ n → ⊥
-        differ v n m k = grind arith
+    go : (b : Bool) → nat_eq v n ≡ b → (IsIn v ns → beside zero_ratio (zip ns vs) v ≡ p v) → cond b w (beside zero_ratio (zip ns vs) v) ≡ p v
+    go true m rest = s zero (omega arith) ∙ ap p (sym (eqb-true v n m))
+    go false m rest = elim i [ inl k ↦ absurd (differ v n m k) | inr k ↦ rest k ]
 
 in_zip : (ns : List ℕ) (vs : List Ratio) (p : ℕ → Ratio) → Stand ns vs p → (n : ℕ × Ratio) → IsIn n (zip ns vs) → (n.1 ≡ p n.0) × IsIn n.0 ns
 in_zip [] vs p s n i = absurd i
@@ -133,3 +148,97 @@ module _ (net : Network) (piece : PieceLists) (h : IsInNet net piece) where
   not_both values row past are given =
       clash given.gives.0 given.potential are.potential given.gives.1 (potentials_are_unique net piece (cost_at net.arcs) given.potential are.potential h given.priced are.priced) row past given.gives.2
       (are.rows_fit given.gives.0 given.gives.1)
+
+-- ---- what the calls need
+
+in_list : {A : Type 0} (xs : List A) (i : ℕ) (d : A) → i < length xs → IsIn (slice_index_or xs i d) xs
+in_list [] i d l = absurd (omega arith)
+in_list (x ∷ xs) zero d l = inl refl
+in_list (x ∷ xs) (suc i) d l = inr (in_list xs i d (omega arith))
+
+num_apart : (r : Ratio) → r ≢ zero_ratio → r.num ≢ pos 0
+unfolding ratio.whole
+num_apart r n e = n (same_parts r zero_ratio (rw e (omega arith)))
+
+module _ (full : FullNet) (phase : Phase) (nodes : List (ℕ × Ratio)) (basics : List (ℕ × Ends × Ratio)) (marks : List (ℕ × Mark)) (h : IsInNet (phase_net phase full) (piece_of nodes basics marks)) where
+  abbrev net : Network
+  net = phase_net phase full
+
+  abbrev piece : PieceLists
+  piece = piece_of nodes basics marks
+
+  sound : HasSoundArcs net
+  sound = full_net_is_sound phase full
+
+  pub inside : (k : ℕ) (d : ℕ × Ends × Ratio) → k < length basics → (slice_index_or basics k d).0 < all_arcs full
+  inside k d l = subst (λ n. (slice_index_or basics k d).0 < n) (length_full phase full.net.arcs full.artificial) (h.basic (slice_index_or basics k d) (in_list basics k d l)).0
+
+  lies_at : (k : ℕ) (d : ℕ × Ends × Ratio) → k < length basics → LiesIn ratios (nodes_in piece) (graph_ends (slice_index_or basics k d).1)
+  lies_at k d l =
+      let i = in_list basics k d l in
+      subst (λ e. LiesIn ratios (nodes_in piece) (graph_ends e)) (sym (h.basic (slice_index_or basics k d) i).1)
+      (lies net piece h (slice_index_or basics k d).0 (in_map (λ (b : ℕ × Ends × Ratio). b.0) (slice_index_or basics k d) basics i))
+
+  pub stand_at : (k : ℕ) (d : ℕ × Ends × Ratio) → k < length basics → EndsStand (nodes_in piece) (slice_index_or basics k d).1
+  stand_at k d l = go (slice_index_or basics k d).1 (lies_at k d l)
+    where
+      stands : (v : ℕ) → IsIn v (nodes_in piece) → Stands (nodes_in piece) v
+      stands v i = let r = at_of v (nodes_in piece) i in (r.0, (r.1, r.2))
+
+      go : (e : Ends) → LiesIn ratios (nodes_in piece) (graph_ends e) → EndsStand (nodes_in piece) e
+      go (Link i j g) l = (stands i l.0, stands j l.1)
+      go (Drain i) l = stands i l
+      go (Feed i) l = stands i l
+
+  pub is_tree : IsTree (nodes_in piece) basics
+  is_tree = tree net piece sound h
+
+  pub walkable : (costs : List Ratio) → costs ≡ costs_in (cost_at net.arcs) basics → AreWalkable basics costs
+  walkable costs e = record {
+    one_each = ap length e ∙ length_map (λ (b : ℕ × Ends × Ratio). cost_at net.arcs b.0) basics;
+    gains = λ k d l. go (slice_index_or basics k d).1 (lies_at k d l);
+  }
+    where
+      go : (e : Ends) → LiesIn ratios (nodes_in piece) (graph_ends e) → HasGain e
+      go (Link i j g) l = num_apart g l.2
+      go (Drain i) l = record {}
+      go (Feed i) l = record {}
+
+  pub begins : (joints : List Joint) → AreJoints (nodes_in piece) basics joints → (extra : ExtraArc) → IsFound (nodes_in piece) basics joints extra → CanWalkOff nodes basics joints extra
+  begins joints are (found.OneEnd arc) is =
+      let l : arc < length joints = subst (λ n. arc < n) (sym are.long) is.laid_out.0 in
+      (is.laid_out.0, l, subst (λ n. (slice_index_or joints arc loose).from < n) (length_map (λ (n : ℕ × Ratio). n.0) nodes) (joints_below (nodes_in piece) basics joints are arc loose l).0)
+  begins joints are (found.Round cycle) is = (
+    is.laid_out.0,
+    λ k d l. in_lists (slice_index_or cycle.items k d) (in_list cycle.items k d l),
+    λ last e. num_apart last (apart net piece sound h (first_node (nodes_in piece) cycle.items) (way_of (nodes_in piece) basics cycle.items) (is.is_extra (ends_at net.arcs) (of_ends net piece sound h)) last
+        (sym (divisor_is (ends_at net.arcs) (cost_at net.arcs) nodes basics (costs_in (cost_at net.arcs) basics) (of net piece sound h) (first_node (nodes_in piece) cycle.items) cycle.items is.laid_out.3 in_lists) ∙ e)),
+  )
+    where
+      in_lists : (s : Step) → IsIn s cycle.items → IsWithin nodes basics s
+      in_lists = steps_within net piece sound h cycle.items is.laid_out.1
+
+  pub steps_inside : (joints : List Joint) → AreJoints (nodes_in piece) basics joints → (extra : ExtraArc) (n : ℕ) (search : Search) → IsSearch joints n (starts_of joints extra) search
+      → (k : ℕ) (d : Step) → k < length search.steps.items → IsWithin nodes basics (slice_index_or search.steps.items k d)
+  steps_inside joints are extra n search is k d l =
+      let w = placed (nodes_in piece) basics joints are search.steps.items (starts_of joints extra) is.goes (slice_index_or search.steps.items k d) (in_list search.steps.items k d l) in
+      let e = length_map (λ (n : ℕ × Ratio). n.0) nodes in
+      (w.0, subst (λ n. (slice_index_or search.steps.items k d).near < n) e w.1, subst (λ n. (slice_index_or search.steps.items k d).far < n) e w.2)
+
+  -- ---- the answer
+
+  pub answered : (joints : List Joint) (costs : List Ratio) (steps : List Step) (extra : ExtraArc) (n : ℕ) (search : Search) (zeros : List Ratio) → costs ≡ costs_in (cost_at net.arcs) basics → steps ≡ search.steps.items
+      → AreJoints (nodes_in piece) basics joints → IsFound (nodes_in piece) basics joints extra → IsSearch joints n (starts_of joints extra) search → IsClosed joints search.queue.items → length zeros ≡ length nodes → EndFits basics costs extra
+      → MatchResult (walk_off nodes basics costs joints extra steps zeros) (ArePotentials net piece) (IsOverflow net piece)
+  answered joints costs steps extra n search zeros costs_are steps_are are is is_search closed long fits =
+      subst (λ c. MatchResult (walk_off nodes basics c joints extra steps zeros) (ArePotentials net piece) (IsOverflow net piece)) (sym costs_are)
+      (subst (λ l. MatchResult (walk_off nodes basics (costs_in (cost_at net.arcs) basics) joints extra l zeros) (ArePotentials net piece) (IsOverflow net piece)) (sym steps_are)
+      (walked net piece sound h joints are n search closed extra is is_search zeros long (subst (λ c. EndFits basics c extra) costs_are fits)))
+
+pub on_ok : {A E : Type 0} (P : A → Type 0) (Q : E → Type 0) (r : Result A E) (x : A) → MatchResult r P Q → r ≡ Ok x → P x
+on_ok P Q (Ok y) x m e = subst P (let f : y ≡ x = cc in f) m
+on_ok P Q (Err o) x m e = absurd (let f : ⊥ = cc in f)
+
+pub on_err : {A E : Type 0} (P : A → Type 0) (Q : E → Type 0) (r : Result A E) (o : E) → MatchResult r P Q → r ≡ Err o → Q o
+on_err P Q (Ok y) o m e = absurd (let f : ⊥ = cc in f)
+on_err P Q (Err p) o m e = subst Q (let f : p ≡ o = cc in f) m

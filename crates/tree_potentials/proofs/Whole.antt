@@ -177,7 +177,7 @@ module _ (net : Network) (piece : PieceLists) (sound : HasSoundArcs net) (h : Is
     told past g = (refl, record { potential = potential; priced = priced; gives = (x, is_extra, g) })
 
   -- steps of a cycle by places
-  steps_within : (steps : List Step) → ((i : ℕ) (d : Step) → i < length steps → IsPlaced (nodes_in piece) piece.basics (slice_index_or steps i d)) → (s : Step) → IsIn s steps → IsWithin piece.nodes piece.basics s
+  pub steps_within : (steps : List Step) → ((i : ℕ) (d : Step) → i < length steps → IsPlaced (nodes_in piece) piece.basics (slice_index_or steps i d)) → (s : Step) → IsIn s steps → IsWithin piece.nodes piece.basics s
   steps_within steps all s i =
       let w = each steps all s i in
       (w.0, subst (λ n. s.near < n) (length_map (λ (n : ℕ × Ratio). n.0) piece.nodes) w.1, subst (λ n. s.far < n) (length_map (λ (n : ℕ × Ratio). n.0) piece.nodes) w.2)

@@ -168,18 +168,20 @@ fn values_of(
         → MatchResult result (λ values. ArePotentials (phase_net phase full.now) (piece_of nodes.now basics.now marks) values.items)
             (IsCause (phase_net phase full.now) (piece_of nodes.now basics.now marks)) }
 {
-    let costs = costs_of(alloc, full, phase, basics)?;
-    let joints = joints_of(alloc, nodes, basics)?;
-    let incidence = arcs_at_nodes(alloc, joints.as_slice(), nodes.len())?;
-    let extra = find_extra(alloc, nodes, basics, joints.as_slice(), &incidence)?;
-    let search = search_off(alloc, joints.as_slice(), &incidence, &extra, nodes.len())?;
+    let cost_list = costs_of(alloc, full, phase, basics)?;
+    let costs = cost_list.as_slice();
+    let joint_list = joints_of(alloc, nodes, basics)?;
+    let joints = joint_list.as_slice();
+    let incidence = arcs_at_nodes(alloc, joints, nodes.len())?;
+    let extra = find_extra(alloc, nodes, basics, joints, &incidence)?;
+    let search = search_off(alloc, joints, &incidence, &extra, nodes.len())?;
     let start = zeros(alloc, nodes.len())?;
     let rows = Rows {
         nodes,
         basics,
-        costs: costs.as_slice(),
+        costs,
     };
-    match off_extra(&rows, joints.as_slice(), &extra, search.steps.as_slice(), start) {
+    match off_extra(&rows, joints, &extra, search.steps.as_slice(), start) {
         Ok(found) => Ok(found),
         Err(overflow) => Err(PotentialRefusal::Past(overflow)),
     }
