@@ -4,3 +4,4 @@ pub mod Rounds
 pub mod Carried
 pub mod Whole
 pub mod Settings
+pub mod FiveNodes

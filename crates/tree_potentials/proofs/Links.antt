@@ -1,5 +1,5 @@
 -- What the operations over one link give: the potential at its other end.
-use Rattle.std.specs.Prelude.{◌≡◌, ◌≢◌, ◌⊎◌, ℕ, nat_eq, if◌then◌else◌, Bool, true, false, List, Result, Ok}
+use Rattle.std.specs.Prelude.{◌≡◌, ◌≢◌, ℕ, nat_eq, if◌then◌else◌, Bool, true, false, List, Ok}
 use Rattle.std.proofs.Common.{refl, sym, ap, ap₂, ◌∙◌, inl, inr, eqb-true, eq-eqb}
 use Rattle.gain_graphs.specs.Arcs as graph
 use Rattle.gain_graphs.specs.Cycles.{Joins, IsNoLoop}
@@ -8,7 +8,6 @@ use Rattle.gain_graphs.proofs.Algebra as algebra
 use Rattle.np_frac.specs.Ratio.{Ratio, zero_ratio, negated, inverse, ◌+ᵣ◌, ◌*ᵣ◌}
 use Rattle.np_frac.specs.Exact.{plus_of, minus_of, times_of, over_of, ◌▷◌}
 use Rattle.np_frac.specs.Fits.{Fits}
-use Rattle.np_frac.specs.declared.frac.Past.{Past}
 use Rattle.np_frac.proofs.Exactness.{plus_exact, minus_exact, times_exact, over_exact, found_by}
 use Rattle.np_frac.proofs.Fitting.{plus_fits, over_fits}
 use Rattle.np_frac.proofs.RatioLaws.{+ᵣ_assoc, +ᵣ_comm, +ᵣ-zero, *ᵣ_assoc, *ᵣ_comm}

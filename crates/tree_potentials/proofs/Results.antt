@@ -1,7 +1,7 @@
 -- Answers of operations, one after the other.
 use Rattle.std.specs.Prelude.{◌≡◌, ◌⊎◌, Result, Ok, Err}
 use Rattle.std.specs.Result.{IsOk}
-use Rattle.std.proofs.Common.{refl, sym, ap, ◌∙◌, inl, inr, true≢false}
+use Rattle.std.proofs.Common.{refl, sym, ◌∙◌, inl, inr, true≢false}
 use Rattle.np_frac.specs.declared.frac.Past.{Past}
 use Rattle.np_frac.specs.Exact.{◌▷◌}
 use Rattle.np_model.specs.declared.rows.Row.{Row}

@@ -1,5 +1,5 @@
 -- The potential of the least node of a cycle: what the rows give there is that of the piece.
-use Rattle.std.specs.Prelude.{◌≡◌, ◌≢◌, ◌⊎◌, ◌<◌, ℕ, List, [], ◌∷◌, length, slice_index, Result, Ok, Err}
+use Rattle.std.specs.Prelude.{◌≡◌, ◌≢◌, ◌<◌, ℕ, List, [], ◌∷◌, length, slice_index, Ok, Err}
 use Rattle.std.proofs.Common.{refl, sym, ap, ap₂, subst, ◌∙◌, inl, inr}
 use Rattle.gain_graphs.specs.Arcs.{IsIn}
 use Rattle.gain_graphs.specs.Cycles.{Joins, IsWay}
@@ -7,7 +7,7 @@ use Rattle.np_frac.specs.Ratio.{Ratio, zero_ratio, one_ratio, negated, inverse, 
 use Rattle.np_frac.specs.Exact.{minus_of, over_of, ◌▷◌}
 use Rattle.np_frac.specs.declared.frac.Past.{Past}
 use Rattle.np_frac.proofs.Exactness.{minus_exact, over_exact, found_by}
-use Rattle.np_frac.proofs.RatioLaws.{+ᵣ_assoc, +ᵣ_comm, +ᵣ-zero, zero-+ᵣ, *ᵣ_comm, *ᵣ-+ᵣ, one-*ᵣ}
+use Rattle.np_frac.proofs.RatioLaws.{+ᵣ_assoc, +ᵣ-zero, zero-+ᵣ, *ᵣ_comm, *ᵣ-+ᵣ, one-*ᵣ}
 use Rattle.np_frac.proofs.Field.{+ᵣ-negated, *ᵣ-one}
 use Rattle.gain_graphs.proofs.Algebra as algebra
 use Rattle.np_model.specs.declared.arc.Ends.{Ends}
@@ -17,13 +17,13 @@ use Rattle.np_model.specs.declared.rows.Overflow.{Overflow}
 use Rattle.np_model.specs.declared.rows.Place.TheVariants.{Turn}
 use Rattle.np_model.specs.Network.Flows.{at}
 use Rattle.np_model.specs.Basis.Graphs.{ratios, graph_of}
-use Rattle.np_model.specs.Rows.Extra.{Extra, Round}
+use Rattle.np_model.specs.Rows.Extra.{Round}
 use Rattle.np_model.specs.Rows.Potentials as rows
 use Rattle.np_model.specs.Rows.Potentials.{across, scaled_across}
 use Rattle.tree_search.specs.declared.piece.Step.{Step}
 use Rattle.tree_search.specs.Places.{nodes_in, number_at, ends_at}
 use Rattle.tree_search.specs.Finding.{Follows, way_of}
-use Rattle.tree_potentials.specs.Along.{IsWithin, overflow_at_turn, in_row, ◌▸◌, product_of, over_step, potential_of, divisor_of, root_of}
+use Rattle.tree_potentials.specs.Along.{IsWithin, overflow_at_turn, in_row, product_of, over_step, potential_of, divisor_of, root_of}
 use Rattle.tree_potentials.proofs.Links.{Crosses, parts_across, over_times}
 use Rattle.tree_potentials.proofs.Results.{same_then, refused_by, row_ok, row_err, next_ok, next_err}
 
@@ -42,8 +42,8 @@ module _ (ends : ℕ → Ends) (cost : ℕ → Ratio) (nodes own : List ℕ) (p 
   closes : (q sum product last r : Ratio) → q ≡ sum +ᵣ product *ᵣ q → last ≡ one_ratio +ᵣ negated product → last ≢ zero_ratio → r ≡ sum *ᵣ inverse last → r ≡ q
   closes q sum product last r is l n e =
       let f : q *ᵣ last ≡ sum =
-          ap (λ t. q *ᵣ t) l ∙ *ᵣ-+ᵣ q one_ratio (negated product) ∙ ap₂ (λ y z. y +ᵣ z) (*ᵣ-one q) (algebra.times_negated ratios q product ∙ ap negated (*ᵣ_comm q product))
-          ∙ ap (λ t. t +ᵣ negated (product *ᵣ q)) is ∙ +ᵣ_assoc sum (product *ᵣ q) (negated (product *ᵣ q)) ∙ ap (λ t. sum +ᵣ t) (+ᵣ-negated (product *ᵣ q)) ∙ +ᵣ-zero sum in
+      ap (λ t. q *ᵣ t) l ∙ *ᵣ-+ᵣ q one_ratio (negated product) ∙ ap₂ (λ y z. y +ᵣ z) (*ᵣ-one q) (algebra.times_negated ratios q product ∙ ap negated (*ᵣ_comm q product))
+      ∙ ap (λ t. t +ᵣ negated (product *ᵣ q)) is ∙ +ᵣ_assoc sum (product *ᵣ q) (negated (product *ᵣ q)) ∙ ap (λ t. sum +ᵣ t) (+ᵣ-negated (product *ᵣ q)) ∙ +ᵣ-zero sum in
       e ∙ ap (λ t. t *ᵣ inverse last) (sym f) ∙ over_times q last n
 
   -- so the quotient is the potential of the least node

@@ -1,9 +1,8 @@
 -- The potentials of a piece once they stand in it; and that the rows cannot give an overflow too.
-use Rattle.std.specs.Prelude.{◌≡◌, ◌≢◌, ◌<◌, ℕ, zero, suc, nat_eq, cond, Bool, true, false, List, [], ◌∷◌, map, length, slice_index, slice_index_or, Result, Ok, Err, MatchResult, pos, ⊤}
-use Rattle.std.specs.List.{zip, All}
+use Rattle.std.specs.Prelude.{◌≡◌, ◌≢◌, ◌<◌, ℕ, zero, suc, nat_eq, cond, Bool, true, false, List, [], ◌∷◌, map, length, slice_index, slice_index_or, Result, Ok, Err, MatchResult, pos}
+use Rattle.std.specs.List.{zip}
 use Rattle.std.specs.Result.{IsOk}
 use Rattle.std.proofs.Common.{refl, sym, ap, ap₂, subst, ◌∙◌, inl, inr, arith, eqb-true, eq-eqb, true≢false}
-use Rattle.std.proofs.lemmas.List.{length-map}
 use Rattle.gain_graphs.specs.Arcs.{IsIn}
 use Rattle.gain_graphs.specs.Cycles.{Joins}
 use Rattle.gain_graphs.specs.QuasiTrees.{LiesIn}
@@ -20,7 +19,7 @@ use Rattle.np_model.specs.declared.arc.Ends.TheVariants.{Link, Drain, Feed}
 use Rattle.np_model.specs.declared.rows.Row.{Row}
 use Rattle.np_model.specs.Network.Arcs.{reduced_cost, tail_of, head_of}
 use Rattle.np_model.specs.Network.Flows.{Network, at}
-use Rattle.np_model.specs.Basis.Graphs.{ratios, graph_ends, graph_of, ends_at, cost_at}
+use Rattle.np_model.specs.Basis.Graphs.{ratios, graph_ends, ends_at, cost_at}
 use Rattle.np_model.specs.Basis.Pieces.{PieceLists, nodes_in, basics_in, beside}
 use Rattle.np_model.specs.Basis.Sound.{IsInNet}
 use Rattle.np_model.specs.Rows.Extra.{Extra, Round, IsExtra, Leads}
@@ -242,3 +241,11 @@ on_ok P Q (Err o) x m e = absurd (let f : ⊥ = cc in f)
 pub on_err : {A E : Type 0} (P : A → Type 0) (Q : E → Type 0) (r : Result A E) (o : E) → MatchResult r P Q → r ≡ Err o → Q o
 on_err P Q (Ok y) o m e = absurd (let f : ⊥ = cc in f)
 on_err P Q (Err p) o m e = subst Q (let f : p ≡ o = cc in f) m
+
+-- what is told of the piece with these lists, whatever its marks, holds of the piece that has them
+pub of_lists : (P : PieceLists → Type 0) (net : Network) (nodes : List (ℕ × Ratio)) (basics : List (ℕ × Ends × Ratio)) (marks : List (ℕ × Mark)) (held : PieceLists) → piece_of nodes basics marks ≡ held
+    → IsInNet net held → ((marks : List (ℕ × Mark)) → IsInNet net (piece_of nodes basics marks) → P (piece_of nodes basics marks)) → P held
+of_lists P net nodes basics marks held e h told = subst P e (told marks (subst (IsInNet net) (sym e) h))
+
+pub same_piece : (nodes ns : List (ℕ × Ratio)) (basics bs : List (ℕ × Ends × Ratio)) (marks : List (ℕ × Mark)) (held : PieceLists) → nodes ≡ ns → basics ≡ bs → piece_of ns bs marks ≡ held → piece_of nodes basics marks ≡ held
+same_piece nodes ns basics bs marks held e f g = ap₂ (λ n b. piece_of n b marks) e f ∙ g

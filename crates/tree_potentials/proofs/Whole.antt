@@ -1,14 +1,13 @@
 -- The walk off the extra arc of a piece gives its potentials, or an operation that is reached overflows.
-use Rattle.std.specs.Prelude.{Vec, ◌≡◌, ◌≢◌, ◌⊎◌, ◌<◌, ℕ, zero, suc, List, [], ◌∷◌, ◌++◌, map, length, slice_index, slice_index_or, slice_set, Result, Ok, Err, MatchResult}
+use Rattle.std.specs.Prelude.{Vec, ◌≡◌, ◌≢◌, ◌<◌, ℕ, zero, suc, List, [], ◌∷◌, ◌++◌, length, slice_index, slice_index_or, slice_set, Result, Ok, Err, MatchResult}
 use Rattle.std.specs.Global.{Global}
 use Rattle.std.specs.Result.{IsOk}
 use Rattle.std.proofs.Common.{refl, sym, ap, ap₂, subst, ◌∙◌, inl, inr, arith}
-use Rattle.std.proofs.lemmas.List.{get_or-map, length-map, length-set}
+use Rattle.std.proofs.lemmas.List.{get_or-map, length-set}
 use Rattle.gain_graphs.specs.Arcs as graph
 use Rattle.gain_graphs.specs.Arcs.{IsIn}
 use Rattle.gain_graphs.specs.Cycles.{nodes_along, Joins, IsNoLoop, IsWay}
-use Rattle.gain_graphs.specs.QuasiTrees.{LiesIn}
-use Rattle.gain_graphs.proofs.Lists.{in_map, in_with, length_map}
+use Rattle.gain_graphs.proofs.Lists.{in_map, length_map}
 use Rattle.np_frac.specs.Ratio.{Ratio, zero_ratio}
 use Rattle.np_frac.specs.Fits.{Fits}
 use Rattle.np_frac.specs.Exact.{over_of, ◌▷◌}
@@ -16,7 +15,6 @@ use Rattle.np_frac.specs.declared.frac.Past.{Past}
 use Rattle.np_frac.proofs.Exactness.{found_by}
 use Rattle.np_frac.proofs.Fitting.{over_fits}
 use Rattle.np_model.specs.declared.arc.Ends.{Ends}
-use Rattle.np_model.specs.declared.rows.Row.{Row}
 use Rattle.np_model.specs.declared.rows.Row.TheVariants.{A7}
 use Rattle.np_model.specs.declared.rows.Overflow.{Overflow}
 use Rattle.np_model.specs.Network.Flows.{Network, at}
@@ -38,17 +36,17 @@ use Rattle.tree_search.specs.declared.piece.ExtraArc.TheVariants as found
 use Rattle.tree_search.specs.declared.search.Search.{Search}
 use Rattle.tree_search.specs.Places.{number_at, ends_at, blank, loose, AreEndsOf, AreJoints, IsTree}
 use Rattle.tree_search.specs.Search.{fars, IsSearch, IsClosed}
-use Rattle.tree_search.specs.Finding.{first_node, way_of, as_extra, starts_of, IsLaidOut, IsFound, IsPlaced}
-use Rattle.tree_search.specs.Outwards.{IsStepOver, AreOutwards}
+use Rattle.tree_search.specs.Finding.{first_node, way_of, as_extra, starts_of, IsFound, IsPlaced}
+use Rattle.tree_search.specs.Outwards.{AreOutwards}
 use Rattle.tree_search.proofs.Hanging.{searches_go_outwards}
 use Rattle.tree_search.proofs.Placed as placed
-use Rattle.tree_search.proofs.Searches.{at_in, default}
+use Rattle.tree_search.proofs.Searches.{at_in}
 use Rattle.tree_search.proofs.Trees.{one_place, ends_is}
-use Rattle.tree_potentials.specs.Along.{costs_in, IsWithin, overflow_at_turn, in_row, ◌▸◌, spread, root_of, no_step, first_place, but_last, walk_off_end, walk_off_cycle, walk_off, EndFits}
-use Rattle.tree_potentials.specs.Answers.{ArePotentials, GivesPast, IsOverflow}
+use Rattle.tree_potentials.specs.Along.{costs_in, IsWithin, overflow_at_turn, in_row, ◌▸◌, spread, root_of, first_place, but_last, walk_off_end, walk_off_cycle, walk_off, EndFits}
+use Rattle.tree_potentials.specs.Answers.{ArePotentials, IsOverflow}
 use Rattle.tree_potentials.proofs.Links.{Crosses, pull_is, end_is}
 use Rattle.tree_potentials.proofs.Results.{is_ok_of}
-use Rattle.tree_potentials.proofs.Rounds.{root_is, root_found, root_refused, divisor_is}
+use Rattle.tree_potentials.proofs.Rounds.{root_is, root_found, root_refused}
 use Rattle.tree_potentials.proofs.Carried as carried
 
 on_round_joins : (ends : ℕ → Ends) (own : List ℕ) (k l : ℕ) (way : List (ℕ × ℕ)) (a u v : ℕ) → IsWay (graph_of ends) own k way l → IsOnRound k way a u v → IsIn a own × Joins (graph_of ends a) u v

@@ -9,7 +9,11 @@ use np_frac::{Frac, Past};
 use tree_search::Step;
 
 // Carries the potentials along the steps: each gives its far node one.
-pub(crate) fn carry(rows: &Rows<'_>, steps: &[Step], potentials: Vec<Frac>) -> Result<Vec<Frac>, Past>
+pub(crate) fn carry(
+    rows: &Rows<'_>,
+    steps: &[Step],
+    potentials: Vec<Frac>,
+) -> Result<Vec<Frac>, Past>
     requires walkable { AreWalkable rows.now.basics.now rows.now.costs.now }
     requires within { All (λ step. IsWithin rows.now.nodes.now rows.now.basics.now step) steps.now }
     requires long { length potentials.items ≡ length rows.now.nodes.now }

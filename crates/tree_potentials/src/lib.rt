@@ -7,7 +7,8 @@ mod refusal;
 mod rows;
 mod setting;
 
-
 pub use refusal::PotentialRefusal;
 pub use setting::potentials;
 
+#[cfg(test)]
+mod tests;

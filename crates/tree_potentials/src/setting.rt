@@ -69,7 +69,7 @@ fn carry_both(
     requires within_too { All (λ step. IsWithin rows.now.nodes.now rows.now.basics.now step) second.now }
     requires long { length potentials.items ≡ length rows.now.nodes.now }
     ensures { let answer = (spread rows.now.nodes.now rows.now.basics.now rows.now.costs.now first.now potentials.items
-            ▷ spread rows.now.nodes.now rows.now.basics.now rows.now.costs.now second.now) in
+        ▷ spread rows.now.nodes.now rows.now.basics.now rows.now.costs.now second.now) in
         MatchResult result (λ found. answer ≡ Ok found.items) (λ past. answer ≡ Err past) }
 {
     match carry(rows, first, potentials) {
@@ -166,7 +166,7 @@ fn values_of(
     requires in_net { (marks : List (ℕ × TheMark)) × IsInNet (phase_net phase full.now) (piece_of nodes.now basics.now marks) }
     ensures { (marks : List (ℕ × TheMark)) → IsInNet (phase_net phase full.now) (piece_of nodes.now basics.now marks)
         → MatchResult result (λ values. ArePotentials (phase_net phase full.now) (piece_of nodes.now basics.now marks) values.items)
-            (IsCause (phase_net phase full.now) (piece_of nodes.now basics.now marks)) }
+        (IsCause (phase_net phase full.now) (piece_of nodes.now basics.now marks)) }
 {
     let cost_list = costs_of(alloc, full, phase, basics)?;
     let costs = cost_list.as_slice();

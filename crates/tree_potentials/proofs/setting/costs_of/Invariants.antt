@@ -1,4 +1,4 @@
-use Rattle.std.proofs.Common.{◌≡◌, ◌++◌, drop, map}
+use Rattle.std.proofs.Common.{◌≡◌, ◌++◌, drop}
 use Rattle.np_model.specs.Basis.Graphs.{cost_at}
 use Rattle.np_model.specs.Basis.Phases.{phase_net}
 use Rattle.tree_potentials.specs.Along.{costs_in}

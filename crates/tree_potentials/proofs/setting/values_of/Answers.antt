@@ -1,6 +1,5 @@
 use Rattle.std.proofs.Common.{◌<◌, ◌∙◌, ℕ, List, sym, subst, length, slice_index_or}
 use Rattle.tree_search.specs.declared.piece.Step.{Step}
-use Rattle.tree_search.specs.declared.piece.Joint.{Joint}
 use Rattle.tree_search.specs.Places.{nodes_in, AreJoints}
 use Rattle.tree_potentials.specs.Along.{IsWithin}
 use Rattle.tree_potentials.proofs.Settings.{inside, stand_at, is_tree, walkable, begins, steps_inside, answered, on_ok, on_err}
