@@ -1,21 +1,20 @@
 -- The network of a shape is a valid one, and its piece lies in it.
-use Rattle.std.specs.Prelude.{◌≡◌, ◌≢◌, ◌↔◌, ◌⊎◌, ℕ, ◌+◌, ◌-◌, ◌<◌, ◌≤◌, ◌^◌, List, [], ◌∷◌, ◌++◌, length, map}
-use Rattle.std.specs.List.{All, range_with_len}
+use Rattle.std.specs.Prelude.{◌≡◌, ◌⊎◌, ℕ, ◌+◌, ◌-◌, ◌<◌, ◌≤◌, List, [], ◌∷◌, length, map}
+use Rattle.std.specs.List.{range_with_len}
 use Rattle.std.specs.List.Sorted.{IsStrictlyIncreasing}
-use Rattle.std.proofs.Common.{refl, sym, ap, ap₂, subst, ◌∙◌, inl, inr, arith, get_or}
-use Rattle.std.proofs.lemmas.Bool.{cases_eq}
+use Rattle.std.proofs.Common.{refl, sym, ap, ap₂, subst, ◌∙◌, inl, inr, arith}
 use Rattle.std.proofs.lemmas.List.{length-map, length-append, get_or_append_left, get_or-append_right, get_or-map}
 use Rattle.std.proofs.lemmas.List.Elements.{All-from_get_or}
-use Rattle.std.proofs.lemmas.List.FromFn.{get_or-map-range_with_len, length-map-range_with_len, length-range_with_len}
+use Rattle.std.proofs.lemmas.List.FromFn.{get_or-map-range_with_len, length-map-range_with_len}
 use Rattle.gain_graphs.specs.Arcs.{IsIn, Touches}
 use Rattle.gain_graphs.specs.QuasiTrees.{IsQuasiTree}
-use Rattle.gain_graphs.proofs.Lists.{in_map, in_map_of}
+use Rattle.gain_graphs.proofs.Lists.{in_map_of}
 use Rattle.np_frac.specs.Ratio.{Ratio, zero_ratio}
 use Rattle.np_model.specs.declared.arc.Ends.{Ends}
-use Rattle.np_model.specs.declared.arc.Ends.TheVariants.{Link, Drain}
+use Rattle.np_model.specs.declared.arc.Ends.TheVariants.{Drain}
 use Rattle.np_model.specs.declared.arc.NetArc.{NetArc}
 use Rattle.np_model.specs.declared.log.Mark.{Mark}
-use Rattle.np_model.specs.declared.log.Mark.TheVariants.{Lower, Basic}
+use Rattle.np_model.specs.declared.log.Mark.TheVariants.{Lower}
 use Rattle.np_model.specs.declared.phase.Phase.TheVariants.{Two}
 use Rattle.np_model.specs.Network.Flows.{Network}
 use Rattle.np_model.specs.Network.Nets.{IsSoundArc, IsNet}
@@ -28,7 +27,7 @@ use Rattle.np_basis.proofs.Ascending.{rises}
 use Rattle.np_basis.proofs.Basics.{range_holds, range_within, range_ascends}
 use Rattle.quasi_tree.specs.Store.{IsHeld}
 use Rattle.bench_pieces.specs.declared.shape.Shape.{Shape}
-use Rattle.bench_pieces.specs.Shapes.{arc_ends, net_arc, supplies, net_arcs, drains, full_net, piece_nodes, piece_basics, piece_marks, full_piece}
+use Rattle.bench_pieces.specs.Shapes.{arc_ends, net_arc, supplies, net_arcs, drains, full_net, piece_basics, full_piece}
 use Rattle.bench_pieces.proofs.Trees.{below_holds, holds_below}
 use Rattle.bench_pieces.proofs.Arcs.{good, good_nodes, good_gain, graph_arc, quasi_tree}
 
