@@ -49,6 +49,20 @@ fn digest(piece: &Quasi) -> u64 {
     sum
 }
 
+// How many nanoseconds so many rounds take.
+fn clocked(rt: HostRuntime, full: &FullNet, piece: &mut Quasi, rounds: u32) -> io::Result<u128>
+    requires { IsInNet (phase_net Two full.now) piece.old.lists }
+{
+    let start = Instant::now(&rt)?;
+    let answer = repeated(rt.alloc(), full, piece, rounds);
+    let nanos = start.elapsed(&rt)?.as_nanos();
+    match answer {
+        Ok(()) => Ok(nanos),
+        Err(_) => Err(io::Error::from(io::ErrorKind::Other)),
+    }
+}
+
+// Times a shape with so many nodes, and prints its line.
 fn timed(rt: HostRuntime, name: &str, shape: Shape, nodes: u32, count: u32) -> io::Result<()>
     requires some { 2 ≤ nodes }
     requires few { nodes ≤ 20000 }
@@ -56,15 +70,10 @@ fn timed(rt: HostRuntime, name: &str, shape: Shape, nodes: u32, count: u32) -> i
     let full = network_of(rt.alloc(), shape, nodes)?;
     let mut piece = piece_of(rt.alloc(), shape, nodes)?;
     let rounds = (count / nodes).max(1);
-    let start = Instant::now(&rt)?;
-    let answer = repeated(rt.alloc(), &full, &mut piece, rounds);
-    let nanos = start.elapsed(&rt)?.as_nanos() / (u128::from(rounds) * u128::from(nodes));
-    if answer.is_err() {
-        println!(rt; "{name} {nodes} refused")?;
-        return Ok(());
-    }
+    let nanos = clocked(rt, &full, &mut piece, rounds)?;
+    let each = nanos / (u128::from(rounds) * u128::from(nodes));
     let sum = digest(&piece);
-    println!(rt; "{name} {nodes} {nanos} {sum}")?;
+    println!(rt; "{name} {nodes} {each} {sum}")?;
     Ok(())
 }
 

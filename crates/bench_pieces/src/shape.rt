@@ -8,7 +8,7 @@ use np_frac::Frac;
 use np_model::Ends;
 
 /// The shape of a network with as many arcs as nodes.
-#[derive(Clone, Copy, PartialEq, Eq)]
+#[derive(Clone, Copy)]
 pub(crate) enum Shape {
     /// A drain at node 0, and a link from each node to the next.
     Chain,
