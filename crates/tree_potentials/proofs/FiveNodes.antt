@@ -1,5 +1,5 @@
 -- Five nodes with a cycle of three links and two links that hang off it: a piece of their network, for the tests.
-use Rattle.std.specs.Prelude.{◌≡◌, ◌≢◌, ◌⊎◌, ◌↔◌, ◌&&◌, true, ◌<◌, ◌≤◌, ◌-◌, ◌^◌, ℕ, zero, suc, List, [], ◌∷◌, map, length, slice_index_or}
+use Rattle.std.specs.Prelude.{◌≡◌, ◌≢◌, ◌⊎◌, ◌&&◌, true, ◌<◌, ◌≤◌, ℕ, zero, suc, List, [], ◌∷◌, length, slice_index_or}
 use Rattle.std.specs.List.{All}
 use Rattle.std.proofs.Common.{refl, sym, ap, subst, ◌∙◌, inl, inr, arith}
 use Rattle.gain_graphs.specs.Arcs as graph
@@ -12,7 +12,7 @@ use Rattle.np_frac.proofs.RatioLaws.{*ᵣ_assoc, *ᵣ_comm, one-*ᵣ, clash, ≤
 use Rattle.np_frac.proofs.Exactness.{left_true, right_true}
 use Rattle.np_frac.proofs.Field.{*ᵣ-one}
 use Rattle.np_model.specs.declared.arc.Ends.{Ends}
-use Rattle.np_model.specs.declared.arc.Ends.TheVariants.{Link, Drain, Feed}
+use Rattle.np_model.specs.declared.arc.Ends.TheVariants.{Link, Drain}
 use Rattle.np_model.specs.declared.arc.Upper.TheVariants.{Infinite}
 use Rattle.np_model.specs.declared.arc.NetArc.{NetArc}
 use Rattle.np_model.specs.declared.log.Mark.{Mark}

@@ -5,3 +5,4 @@ pub mod Carried
 pub mod Whole
 pub mod Settings
 pub mod FiveNodes
+pub mod OneNode

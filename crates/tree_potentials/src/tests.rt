@@ -13,8 +13,7 @@ ghost use Rattle.np_model.specs.Basis.Sound.{IsInNet};
 use crate::{PotentialRefusal, potentials};
 use np_frac::{Frac, Memory, Op, Past};
 use np_model::{
-    Ends, EndsList, Fracs, FullNet, Mark, Net, NetArc, NetArcs, Overflow, Phase, Piece, Place, Row,
-    Upper,
+    Ends, EndsList, Fracs, FullNet, Mark, Net, NetArc, NetArcs, Overflow, Phase, Place, Row, Upper,
 };
 use quasi_tree::{FlowList, Lists, MarkList, NodeList, Quasi};
 use std::alloc::Global;
@@ -177,11 +176,14 @@ fn cycle_and_chain(rt: HostRuntime) -> Result<(), Fail> {
     gains.third = over(1, 2);
     let mut case = five_nodes(rt.alloc(), &gains, &whole(1, 0, 2, -1, 1))?;
     assert!(rt; potentials(rt.alloc(), &case.full, Phase::Two, &mut case.piece).is_ok());
-    assert!(rt; case.piece.potential_of(0) == over(7, 2));
-    assert!(rt; case.piece.potential_of(1) == over(5, 4));
-    assert!(rt; case.piece.potential_of(2) == over(15, 4));
-    assert!(rt; case.piece.potential_of(3) == Frac::whole(4));
-    assert!(rt; case.piece.potential_of(4) == over(3, 2));
+    let expected = [
+        (0, over(7, 2)),
+        (1, over(5, 4)),
+        (2, over(15, 4)),
+        (3, Frac::whole(4)),
+        (4, over(3, 2)),
+    ];
+    assert!(rt; case.piece.lists().nodes.items.as_slice() == expected.as_slice());
     Ok(())
 }
 
@@ -246,6 +248,49 @@ fn potential_off_the_cycle_overflows(rt: HostRuntime) -> Result<(), Fail> {
         past,
     });
     assert!(rt; potentials(rt.alloc(), &case.full, Phase::Two, &mut case.piece) == Err(expected));
-    assert!(rt; case.piece.potential_of(1) == Frac::whole(0));
+    let zero = Frac::whole(0);
+    let kept = [(0, zero), (1, zero), (2, zero), (3, zero), (4, zero)];
+    assert!(rt; case.piece.lists().nodes.items.as_slice() == kept.as_slice());
+    Ok(())
+}
+
+// A node alone with its artificial arc.
+fn one_node(alloc: Global, ends: &Ends) -> Result<Case, Memory>
+    requires { IsOneEndAt 0 ends.now }
+    ensures { IfOk result (λ made. (phase : ThePhase) → IsInNet (phase_net phase made.full) made.piece.lists) }
+{
+    let zero = Frac::whole(0);
+    let supply = Vec::from_slice(alloc, &[zero])?;
+    let artificial = Vec::from_slice(alloc, &[*ends])?;
+    let full = FullNet {
+        net: Net {
+            supply: Fracs { items: supply },
+            arcs: NetArcs {
+                items: Vec::new(alloc),
+            },
+        },
+        artificial: EndsList { items: artificial },
+    };
+    let nodes = Vec::from_slice(alloc, &[(0, zero)])?;
+    let basics = Vec::from_slice(alloc, &[(0, *ends, zero)])?;
+    let piece = Quasi::of_lists(Lists {
+        nodes: NodeList { items: nodes },
+        basics: FlowList { items: basics },
+        marks: MarkList {
+            items: Vec::new(alloc),
+        },
+    });
+    Ok(Case { full, piece })
+}
+
+// In stage one an artificial arc costs 1, which a drain asks of its node, and a feed of its opposite.
+#[test]
+fn nodes_alone(rt: HostRuntime) -> Result<(), Fail> {
+    let mut drained = one_node(rt.alloc(), &Ends::Drain(0))?;
+    assert!(rt; potentials(rt.alloc(), &drained.full, Phase::One, &mut drained.piece).is_ok());
+    assert!(rt; drained.piece.lists().nodes.items.as_slice() == [(0, Frac::whole(1))].as_slice());
+    let mut fed = one_node(rt.alloc(), &Ends::Feed(0))?;
+    assert!(rt; potentials(rt.alloc(), &fed.full, Phase::One, &mut fed.piece).is_ok());
+    assert!(rt; fed.piece.lists().nodes.items.as_slice() == [(0, Frac::whole(-1))].as_slice());
     Ok(())
 }

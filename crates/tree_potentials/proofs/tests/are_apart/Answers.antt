@@ -1,7 +1,6 @@
-use Rattle.std.proofs.Common.{◌≡◌, ◌≢◌, ◌∙◌, sym, not, Bool, true, false, true≢false, refl}
-use Rattle.std.specs.Prelude.{IsTrue, ◌↔◌, Result, Ok}
+use Rattle.std.proofs.Common.{◌≡◌, ◌≢◌, ◌∙◌, sym, not, Bool, true, false, true≢false}
+use Rattle.std.specs.Prelude.{IsTrue, ◌↔◌}
 use Rattle.np_frac.specs.Ratio.{Ratio, ◌*ᵣ◌}
-use Rattle.np_frac.specs.Exact.{times_of}
 use Rattle.np_frac.proofs.Exactness.{times_exact}
 use Rattle.tree_potentials.proofs.tests.are_apart.Goals as goal
 

@@ -1,7 +1,4 @@
-use Rattle.std.proofs.Common.{◌≡◌, ◌≢◌, ◌∙◌, ◌∷◌, [], true, false, refl, sym, ap, ap₂, subst}
-use Rattle.np_model.specs.Network.Nets.{IsNet}
-use Rattle.np_model.specs.Basis.Artificial.{AreArtificial}
-use Rattle.np_frac.specs.Ratio.{Ratio, zero_ratio, is_below, ◌*ᵣ◌}
+use Rattle.std.proofs.Common.{◌≡◌, ◌∙◌, true, refl, sym, ap, subst}
 use Rattle.tree_potentials.proofs.FiveNodes.{AreSuited, suits, net_is_sound, held, drains_are_artificial, is_piece, in_net_of}
 use Rattle.quasi_tree.specs.Store.{IsHeld}
 use Rattle.tree_potentials.proofs.tests.five_nodes.Goals as goal
