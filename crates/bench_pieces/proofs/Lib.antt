@@ -1,0 +1,4 @@
+pub mod Trees
+pub mod Arcs
+pub mod Nets
+pub mod Parts

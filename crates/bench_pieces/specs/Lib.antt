@@ -1,0 +1,2 @@
+-- The networks whose potentials are timed, and their pieces.
+pub mod Shapes

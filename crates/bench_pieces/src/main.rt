@@ -1,0 +1,98 @@
+//! Times `potentials` of `tree_potentials` on chains, stars and cycles. With a number as its argument it finds about that many potentials of
+//! nodes, for each shape and size, and prints the nanoseconds of a node and a digest of the potentials. Without one it does nothing.
+#![tactic(auto)]
+
+ghost use Rattle.std.specs.Prelude.{◌≤◌};
+ghost use Rattle.np_model.specs.declared.phase.Phase.TheVariants.{Two};
+ghost use Rattle.np_model.specs.Basis.Phases.{phase_net};
+ghost use Rattle.np_model.specs.Basis.Sound.{IsInNet};
+
+mod network;
+mod piece;
+mod shape;
+
+use crate::network::network_of;
+use crate::piece::piece_of;
+use crate::shape::Shape;
+use np_model::{FullNet, Phase};
+use quasi_tree::Quasi;
+use std::alloc::Global;
+use std::time::Instant;
+use std::{env, io};
+use tree_potentials::{PotentialRefusal, potentials};
+
+/// The numbers of nodes.
+const SIZES: [u32; 3] = [10, 1_000, 20_000];
+
+// Finds the potentials of the piece so many times.
+fn repeated(
+    alloc: Global,
+    full: &FullNet,
+    piece: &mut Quasi,
+    rounds: u32,
+) -> Result<(), PotentialRefusal>
+    requires { IsInNet (phase_net Two full.now) piece.old.lists }
+{
+    for _ in 0..rounds {
+        potentials(alloc, full, Phase::Two, piece)?;
+    }
+    Ok(())
+}
+
+// The sum of the sizes of the numerators.
+fn digest(piece: &Quasi) -> u64 {
+    let mut sum = 0u64;
+    for node in piece.lists().nodes.items.as_slice() {
+        let size = node.1.num().unsigned_abs() % (1 << 64);
+        sum = sum.wrapping_add(size as u64);
+    }
+    sum
+}
+
+// How many nanoseconds so many rounds take.
+fn clocked(rt: HostRuntime, full: &FullNet, piece: &mut Quasi, rounds: u32) -> io::Result<u128>
+    requires { IsInNet (phase_net Two full.now) piece.old.lists }
+{
+    let start = Instant::now(&rt)?;
+    let answer = repeated(rt.alloc(), full, piece, rounds);
+    let nanos = start.elapsed(&rt)?.as_nanos();
+    match answer {
+        Ok(()) => Ok(nanos),
+        Err(_) => Err(io::Error::from(io::ErrorKind::Other)),
+    }
+}
+
+// Times a shape with so many nodes, and prints its line.
+fn timed(rt: HostRuntime, name: &str, shape: Shape, nodes: u32, count: u32) -> io::Result<()>
+    requires some { 2 ≤ nodes }
+    requires few { nodes ≤ 20000 }
+{
+    let full = network_of(rt.alloc(), shape, nodes)?;
+    let mut piece = piece_of(rt.alloc(), shape, nodes)?;
+    let rounds = (count / nodes).max(1);
+    let nanos = clocked(rt, &full, &mut piece, rounds)?;
+    let each = nanos / (u128::from(rounds) * u128::from(nodes));
+    let sum = digest(&piece);
+    println!(rt; "{name} {nodes} {each} {sum}")?;
+    Ok(())
+}
+
+fn main(rt: HostRuntime) -> io::Result<()> {
+    let mut count = 0;
+    for word in env::args(&rt)?.skip(1) {
+        count = word.as_str().parse::<u32>().unwrap_or(0);
+    }
+    if count == 0 {
+        return Ok(());
+    }
+    for (shape, name) in [
+        (Shape::Chain, "chain"),
+        (Shape::Star, "star"),
+        (Shape::Cycle, "cycle"),
+    ] {
+        for nodes in SIZES {
+            timed(rt, name, shape, nodes, count)?;
+        }
+    }
+    Ok(())
+}
