@@ -10,16 +10,16 @@ use Rattle.gain_graphs.proofs.Ways
 use Rattle.gain_graphs.proofs.Simple
 
 -- back to front, before the entries of `acc`
-abbrev onto : List ℕ → List ℕ → List ℕ
+abbrev pub onto : List ℕ → List ℕ → List ℕ
 onto [] acc = acc
 onto (x ∷ xs) acc = onto xs (x ∷ acc)
 
-onto_once : (xs acc : List ℕ) → AreDistinct xs → AreDistinct acc → ((z : ℕ) → IsIn z xs → ¬ IsIn z acc) → AreDistinct (onto xs acc)
+pub onto_once : (xs acc : List ℕ) → AreDistinct xs → AreDistinct acc → ((z : ℕ) → IsIn z xs → ¬ IsIn z acc) → AreDistinct (onto xs acc)
 onto_once [] acc d e h = e
 onto_once (x ∷ xs) acc d e h = onto_once xs (x ∷ acc) d.1 (h x (inl refl), e)
     (λ z i k. elim k [ inl m ↦ d.0 (subst (λ t. IsIn t xs) m i) | inr l ↦ h z (inr i) l ])
 
-onto_holds : (xs acc : List ℕ) (z : ℕ) → IsIn z (onto xs acc) → IsIn z xs ⊎ IsIn z acc
+pub onto_holds : (xs acc : List ℕ) (z : ℕ) → IsIn z (onto xs acc) → IsIn z xs ⊎ IsIn z acc
 onto_holds [] acc z i = inr i
 onto_holds (x ∷ xs) acc z i = elim (onto_holds xs (x ∷ acc) z i) [ inl k ↦ inl (inr k) | inr k ↦ elim k [ inl m ↦ inl (inl m) | inr l ↦ inr l ] ]
 

@@ -3,6 +3,7 @@ use Rattle.std.proofs.Common.{◌≡◌, ◌≢◌, ◌⊎◌, inl, inr, sym, ap
 use Rattle.std.specs.Prelude.{⊤}
 use Rattle.gain_graphs.specs.Arcs.{IsIn, AreDistinct}
 use Rattle.gain_graphs.proofs.Lists.{in_front, in_back, in_append, swap_once}
+use Rattle.gain_graphs.proofs.Turning.{onto, onto_once, onto_holds}
 use Rattle.tree_search.specs.declared.piece.Step.{Step}
 use Rattle.tree_search.specs.declared.piece.Joint.{Joint}
 use Rattle.tree_search.specs.Search.{JoinsAt, GoesOn, fars, step_arcs}
@@ -15,20 +16,6 @@ use mathlib.Core.List.{reverse_aux}
 pub arcs_append : (l k : List Step) → step_arcs (l ++ k) ≡ step_arcs l ++ step_arcs k
 arcs_append [] k = refl
 arcs_append (s ∷ l) k = ap (λ t. s.arc ∷ t) (arcs_append l k)
-
--- back to front, before the entries of `acc`
-abbrev onto : List ℕ → List ℕ → List ℕ
-onto [] acc = acc
-onto (x ∷ xs) acc = onto xs (x ∷ acc)
-
-onto_once : (xs acc : List ℕ) → AreDistinct xs → AreDistinct acc → ((z : ℕ) → IsIn z xs → ¬ IsIn z acc) → AreDistinct (onto xs acc)
-onto_once [] acc d e h = e
-onto_once (x ∷ xs) acc d e h = onto_once xs (x ∷ acc) d.1 (h x (inl refl), e)
-    (λ z i k. elim k [ inl m ↦ d.0 (subst (λ t. IsIn t xs) m i) | inr l ↦ h z (inr i) l ])
-
-onto_holds : (xs acc : List ℕ) (z : ℕ) → IsIn z (onto xs acc) → IsIn z xs ⊎ IsIn z acc
-onto_holds [] acc z i = inr i
-onto_holds (x ∷ xs) acc z i = elim (onto_holds xs (x ∷ acc) z i) [ inl k ↦ inl (inr k) | inr k ↦ elim k [ inl m ↦ inl (inl m) | inr l ↦ inr l ] ]
 
 -- ---- the way back
 
