@@ -1,9 +1,6 @@
 use crate::{PlanRefused, plan_text, read_plan};
-use np_frac::{Frac, Memory, Op, Past, read_frac};
-use np_model::{
-    Bands, CheckRow, Entry, Flow, FlowKind, Flows, Fracs, Mark, Name, Names, Overflow, Place, Plan,
-    Row, Scheme, Upper, Verdict,
-};
+use np_frac::{Frac, Memory, read_frac};
+use np_model::{Bands, Flow, FlowKind, Flows, Fracs, Name, Names, Plan, Scheme, Upper, Verdict};
 use std::alloc::Global;
 use std::test::Fail;
 use std::vec;
@@ -221,95 +218,13 @@ fn optimal(rt: HostRuntime) -> Result<(), Fail> {
         )?
     );
     assert!(rt; are(&plan.prices, "0 0 0 -2/3")?);
-    assert!(rt; plan.ray.as_slice().is_empty());
-    assert!(rt; plan.arc.is_none() && plan.overflow.is_none());
-    assert!(rt; plan.log.turned == Some(1));
-    assert_eq!(rt; plan.log.entries.items.len(), 2);
-    assert!(rt;
-        plan.log.entries.items.get(0)
-            == Some(&Entry {
-                enter: 0,
-                leave: 3,
-                leave_at: Mark::Lower
-            })
-    );
-    assert!(rt;
-        plan.log.entries.items.get(1)
-            == Some(&Entry {
-                enter: 1,
-                leave: 1,
-                leave_at: Mark::Upper
-            })
-    );
-    Ok(())
-}
-
-#[test]
-fn other_verdicts(rt: HostRuntime) -> Result<(), Fail> {
-    let alloc = rt.alloc();
-    let plan = whole(
-        alloc,
-        "netplan-plan,1|verdict,infeasible|gap,5|price,A,1,-1|end",
-    )?;
-    assert!(rt; plan.verdict == Verdict::Infeasible);
-    assert!(rt; plan.amount == read_frac(b"5"));
-    assert!(rt; are(&plan.prices, "-1 0 0 0")?);
-    assert!(rt; plan.flows.as_slice().is_empty());
-
-    let plan = whole(
-        alloc,
-        "netplan-plan,1|verdict,unbounded|ray,u,2,1|ray,d,2,1|flow,u,1,3|end",
-    )?;
-    assert!(rt; plan.verdict == Verdict::Unbounded);
-    assert!(rt; plan.amount.is_none());
-    assert!(rt; are(&plan.flows, "3 0 0 0 0")?);
-    assert!(rt; are(&plan.ray, "0 0 0 1 1")?);
-    assert!(rt; plan.prices.as_slice().is_empty());
-
-    let plan = whole(alloc, "netplan-plan,1|verdict,budget|arc,000000001|end")?;
-    assert!(rt; plan.verdict == Verdict::Budget);
-    assert!(rt; plan.arc == Some(1));
-    Ok(())
-}
-
-// The row, the place and the operation that overflowed.
-fn overflow(alloc: Global, record: &str) -> Result<Option<Overflow>, Fail> {
-    let mut text = String::new(alloc);
-    text.push_str("netplan-plan,1|verdict,overflow|")?;
-    text.push_str(record)?;
-    text.push_str("|end")?;
-    Ok(whole(alloc, text.as_str())?.overflow)
-}
-
-// The difference of 1/2 and -3 overflowed there.
-fn minus_at(row: Row, place: Place) -> Result<Overflow, Fail> {
-    let left = read_frac(b"1/2").ok_or("no fraction")?;
-    let right = read_frac(b"-3").ok_or("no fraction")?;
-    let past = Past {
-        op: Op::Minus,
-        left,
-        right,
-    };
-    Ok(Overflow { row, place, past })
-}
-
-#[test]
-fn overflows(rt: HostRuntime) -> Result<(), Fail> {
-    let alloc = rt.alloc();
-    let got = overflow(alloc, "past,A8,C0,minus,1/2,-3")?;
-    assert!(rt; got == Some(minus_at(Row::A8, Place::Check(CheckRow::C0))?));
-    let got = overflow(alloc, "past,A1,007,minus,2/4,-3")?;
-    assert!(rt; got == Some(minus_at(Row::A1, Place::Node(7))?));
-    let got = overflow(alloc, "past,A7,turn,minus,1/2,-6/2")?;
-    assert!(rt; got == Some(minus_at(Row::A7, Place::Turn)?));
-    let got = overflow(alloc, "past,A5,999999999,minus,1/2,-3")?;
-    assert!(rt; got == Some(minus_at(Row::A5, Place::Arc(999_999_999))?));
     Ok(())
 }
 
 // A row has the records of a plan, what its text has before the log, and its log.
 const TEXTS: &str = "\
-netplan-plan,1|verdict,optimal|price,B,2,-4/6|flow,d,2,5|pivot,1,0,3,lower|flow,u,01,1/2|cost,-7/1|turned,001|ray,u,1,1|pivot,2,1,1,upper|end;\
+netplan-plan,1|verdict,optimal|price,B,2,-4/6|flow,d,2,5|pivot,1,0,3,lower|flow,u,01,1/2|cost,-7/1|gap,1|turned,001|ray,u,1,1|\
+past,A8,C6,over,1,2|arc,7|pivot,2,1,1,upper|end;\
 netplan-plan,1|verdict,optimal|cost,-7|flow,u,1,1/2|flow,h,1,0|flow,d,1,0|flow,u,2,0|flow,d,2,5|\
 price,A,1,0|price,B,1,0|price,A,2,0|price,B,2,-2/3|;turned,1|pivot,1,0,3,lower|pivot,2,1,1,upper|
 netplan-plan,1|verdict,infeasible|price,A,1,-1|cost,1|gap,5|pivot,1,7,007,upper|flow,u,1,1|end;\
@@ -326,7 +241,11 @@ netplan-plan,1|verdict,overflow|past,A7,turn,over,0,0|;turned,5|
 netplan-plan,1|verdict,overflow|past,A1,03,times,1,-1/9|end;\
 netplan-plan,1|verdict,overflow|past,A1,3,times,1,-1/9|;
 netplan-plan,1|verdict,overflow|past,A5,4,plus,1,1|end;\
-netplan-plan,1|verdict,overflow|past,A5,4,plus,1,1|;";
+netplan-plan,1|verdict,overflow|past,A5,4,plus,1,1|;
+netplan-plan,1|verdict,overflow|past,A8,C0,minus,1/2,-6/2|end;\
+netplan-plan,1|verdict,overflow|past,A8,C0,minus,1/2,-3|;
+netplan-plan,1|verdict,overflow|past,A6,999999999,minus,2/4,-3|end;\
+netplan-plan,1|verdict,overflow|past,A6,999999999,minus,1/2,-3|;";
 
 // The text of the plan of this one.
 fn text_again(alloc: Global, scheme: &Scheme, text: &[u8], log: bool) -> Result<Vec<u8>, Fail> {
