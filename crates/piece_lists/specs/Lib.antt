@@ -1,0 +1,2 @@
+-- The lists of pieces: made one, changed, and taken apart.
+pub mod Merged

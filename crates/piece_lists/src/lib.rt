@@ -1,0 +1,6 @@
+//! The lists of pieces of an augmented forest: made one, changed by a pivot, and taken apart into the pieces that the basic arcs make.
+#![tactic(auto)]
+
+mod numbered;
+
+pub use numbered::{Numbered, merged, without};
