@@ -1,1 +1,4 @@
 pub mod Merging
+pub mod Testing
+pub mod Reaching
+pub mod Splitting

@@ -1,2 +1,3 @@
 -- The lists of pieces: made one, changed, and taken apart.
 pub mod Merged
+pub mod Parts

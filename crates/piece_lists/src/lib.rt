@@ -2,5 +2,6 @@
 #![tactic(auto)]
 
 mod numbered;
+mod parts;
 
 pub use numbered::{Numbered, merged, without};
