@@ -8,6 +8,9 @@ use Rattle.np_model.specs.declared.arc.Ends.TheVariants.{Link, Drain, Feed}
 use Rattle.np_model.specs.declared.log.Mark.{Mark}
 use Rattle.np_model.specs.Basis.Graphs.{graph_ends}
 use Rattle.np_model.specs.Basis.Pieces.{PieceLists}
+use Rattle.np_model.specs.declared.piece.Hands.{Hands}
+use Rattle.np_model.specs.declared.piece.Hands.TheVariants.{One, Two}
+use Rattle.quasi_tree.specs.Store.{Store}
 use Rattle.tree_search.specs.Places.{numbers_of_nodes, ends_of_arcs}
 
 -- for each node whether links join it to the first one
@@ -50,3 +53,8 @@ pub record AreFound (ends : ℕ → Ends) (nodes : List (ℕ × Ratio)) (basics 
   pub seen : List Bool
   pub reached : IsReached (numbers_of_nodes nodes) (ends_of_arcs basics) seen
   pub are : pieces ≡ pieces_at ends (nodes_where true nodes seen) (nodes_where false nodes seen) basics marks
+
+-- the lists of one piece or two
+abbrev pub lists_in : Hands Store → List PieceLists
+lists_in (One piece) = piece.lists ∷ []
+lists_in (Two piece other) = piece.lists ∷ other.lists ∷ []

@@ -3,5 +3,7 @@
 
 mod numbered;
 mod parts;
+mod pieces;
 
 pub use numbered::{Numbered, merged, without};
+pub use pieces::pieces_over;
