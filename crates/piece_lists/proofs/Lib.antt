@@ -2,3 +2,4 @@ pub mod Merging
 pub mod Testing
 pub mod Reaching
 pub mod Splitting
+pub mod Joined
