@@ -3,3 +3,5 @@ pub mod Testing
 pub mod Reaching
 pub mod Splitting
 pub mod Joined
+pub mod Walking
+pub mod Swapped

@@ -114,7 +114,7 @@ module _ {T : Type 0} (key : T → ℕ) where
     second = λ x y i j. absurd i;
   }
 
-  ascends_drop : (i : ℕ) (xs : List T) → Ascends (map key xs) → Ascends (map key (drop i xs))
+  pub ascends_drop : (i : ℕ) (xs : List T) → Ascends (map key xs) → Ascends (map key (drop i xs))
   ascends_drop i xs a = ascends_back (map key (take i xs)) (map key (drop i xs)) (subst (λ t. Ascends t) (ap (map key) (sym (take-append-drop i xs)) ∙ map_append key (take i xs) (drop i xs)) a)
 
   -- what is below the head of a list is below all of it

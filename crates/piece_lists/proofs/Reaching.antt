@@ -1,7 +1,7 @@
 -- What a search by places has reached: the nodes that links join to the first one.
-use Rattle.std.specs.Prelude.{◌≡◌, ◌⊎◌, ◌↔◌, ◌<◌, ℕ, zero, suc, true, false, List, [], ◌∷◌, ◌++◌, map, length, slice_index, slice_index_or}
+use Rattle.std.specs.Prelude.{◌≡◌, ◌<◌, ℕ, List, [], ◌∷◌, map, length, slice_index, slice_index_or}
 use Rattle.std.specs.List.Sorted.{IsStrictlyIncreasing}
-use Rattle.std.proofs.Common.{refl, sym, ap, subst, ◌∙◌, inl, inr, arith}
+use Rattle.std.proofs.Common.{refl, sym, ap, subst, ◌∙◌, inl, inr}
 use Rattle.gain_graphs.specs.Arcs.{IsIn, Step, Along, Against, IsWalk, AreJoined}
 use Rattle.gain_graphs.specs.Arcs as graph
 use Rattle.gain_graphs.proofs.Walks as Walks

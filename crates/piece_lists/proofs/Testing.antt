@@ -1,5 +1,5 @@
 -- The tests of membership, and what they decide.
-use Rattle.std.specs.Prelude.{◌≡◌, ◌⊎◌, ◌<◌, ◌||◌, ℕ, Bool, true, false, List, [], ◌∷◌, length, Result, Ok, Err}
+use Rattle.std.specs.Prelude.{◌≡◌, ◌⊎◌, ◌||◌, ℕ, Bool, true, false, List, [], ◌∷◌, Result, Ok, Err}
 use Rattle.std.specs.Result.{result_ok, is_ok}
 use Rattle.std.proofs.Common.{refl, sym, ap, subst, inl, inr, arith, eqb, true≢false}
 use Rattle.gain_graphs.specs.Arcs.{IsIn, Touches}

@@ -2,3 +2,5 @@
 pub mod Merged
 pub mod Parts
 pub mod Joining
+pub mod Flowing
+pub mod Steps

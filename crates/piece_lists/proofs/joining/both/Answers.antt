@@ -1,4 +1,4 @@
-use Rattle.std.proofs.Common.{◌≡◌, ◌∙◌, ℕ, List, [], ◌∷◌, map, sym, subst, ap, inl, inr, refl}
+use Rattle.std.proofs.Common.{◌∙◌, ℕ, List, map, sym, subst, ap, inl, inr, refl}
 use Rattle.std.specs.List.Sorted.{IsStrictlyIncreasing}
 use Rattle.gain_graphs.specs.Arcs.{IsIn}
 use Rattle.np_frac.specs.Ratio.{Ratio}

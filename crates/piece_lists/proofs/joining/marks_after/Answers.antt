@@ -1,4 +1,4 @@
-use Rattle.std.proofs.Common.{◌≡◌, ◌∙◌, sym, subst, ap, rules}
+use Rattle.std.proofs.Common.{◌∙◌}
 use Rattle.piece_lists.proofs.Joined.{marked_is, new_mark_same, rest_rises}
 use Rattle.piece_lists.proofs.joining.marks_after.Goals as goal
 

@@ -1,6 +1,5 @@
-use Rattle.std.proofs.Common.{rules, ◌≡◌, ◌⊎◌, ◌<◌, ◌≤◌, ◌+◌, ◌++◌, [], ◌∷◌, ℕ, length, drop, get_or, inl, inr, sym, subst, ap, ap₂, ◌∙◌, arith}
+use Rattle.std.proofs.Common.{rules, ◌≡◌, ◌⊎◌, ◌<◌, ◌≤◌, ◌+◌, ◌++◌, length, drop, inl, inr, sym, subst, ap, ap₂, ◌∙◌, arith}
 use Rattle.std.proofs.lemmas.List.{take_rest}
-use Rattle.std.specs.Prelude.{map}
 use Rattle.gain_graphs.specs.Arcs.{IsIn}
 use Rattle.piece_lists.specs.Merged.{IsMerged}
 use Rattle.piece_lists.proofs.Merging.{Turned, at_in, turn_first, turn_second, turn_both, finished, ascending}

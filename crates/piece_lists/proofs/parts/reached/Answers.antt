@@ -1,7 +1,7 @@
-use Rattle.std.proofs.Common.{◌≡◌, ◌<◌, length, sym, subst, ap, ◌∙◌, ◌∷◌, [], ℕ}
+use Rattle.std.proofs.Common.{◌≡◌, ◌<◌, length, sym, subst, ◌∷◌, [], ℕ}
 use Rattle.std.proofs.lemmas.List.{length-map}
 use Rattle.np_frac.specs.Ratio.{Ratio}
-use Rattle.tree_search.specs.Places.{numbers_of_nodes, AreJoints}
+use Rattle.tree_search.specs.Places.{numbers_of_nodes}
 use Rattle.tree_search.specs.Search.{IsSearch, IsClosed}
 use Rattle.piece_lists.proofs.Reaching.{reached_is}
 use Rattle.piece_lists.proofs.parts.reached.Goals as goal

@@ -1,4 +1,4 @@
-use Rattle.std.proofs.Common.{◌≡◌, ◌∙◌, ℕ, length, sym, subst, ap, rules, refl}
+use Rattle.std.proofs.Common.{◌∙◌, sym, subst, ap, rules}
 use Rattle.std.specs.List.Sorted.{IsStrictlyIncreasing}
 use Rattle.std.specs.Prelude.{true, false}
 use Rattle.np_model.specs.declared.phase.Phase.TheVariants.{One as StageOne}
