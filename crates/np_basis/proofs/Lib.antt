@@ -9,3 +9,4 @@ pub mod StartPieces
 pub mod Cutting
 pub mod Reading
 pub mod Examples
+pub mod Directions

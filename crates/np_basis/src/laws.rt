@@ -1,6 +1,7 @@
 //! The laws of states, of their pieces and of the rows of a piece, as the clauses of functions that do nothing.
 
 ghost use Rattle.np_basis.specs.Laws.{FullIsSound, FullNetIsSound, StartIsArtificial, StartIsState, StartIsSingles, SingleIsPart, StartPieceHasShape, StartPieceIsPiece, PieceExists, PieceIsUnique, PiecesAreSound, PotentialsExist, PotentialsAreUnique, WeightsExist, PriceIsReduced, LinksAreNoLoops, ExtraExists, ExtraIsUnique, PotentialsDivisor, DirectionsDivisor, StateExample, RoundExample};
+ghost use Rattle.np_basis.specs.PivotLaws.{DirectionExists, DirectionIsUnique, WholeDirectionExists, WholeDirectionIsUnique};
 
 /// A full network is valid in each phase: with sound real arcs and an artificial arc at each node, all its arcs are sound. So they are in
 /// every [`FullNet`](np_model::FullNet), by its type.
@@ -56,6 +57,15 @@ pub fn extra()
 pub fn divisors()
     ensures potentials { PotentialsDivisor }
     ensures directions { DirectionsDivisor }
+{}
+
+/// An arc whose ends are nodes of some pieces, and that is basic in none of them, has one direction with a given amount on it: amounts on it
+/// and on their basic arcs that take nothing from any of their nodes. So has an arc outside of a whole basis, over all nodes and arcs.
+pub fn directions()
+    ensures exist { DirectionExists }
+    ensures unique { DirectionIsUnique }
+    ensures whole_exist { WholeDirectionExists }
+    ensures whole_unique { WholeDirectionIsUnique }
 {}
 
 /// There are states, and pieces with a cycle: a node alone has a state of stage one, with any supply that fits; and two nodes with two
