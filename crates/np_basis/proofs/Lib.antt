@@ -10,3 +10,4 @@ pub mod Cutting
 pub mod Reading
 pub mod Examples
 pub mod Directions
+pub mod Sound
