@@ -143,7 +143,7 @@ module _ (net : Network) (s : Values) where
         marks = λ x i. let r = in_map_of (λ a. (a, s.mark a)) x o.list i in ap (λ (y : ℕ × Mark). y.1) r.2 ∙ ap (λ (y : ℕ × Mark). s.mark y.0) (sym r.2);
       }
 
-  valid : HasSoundArcs net → (a : ℕ) → IsIn a (basics net.arcs s.mark) → IsValid ratios (length net.supply) (graph_of (ends_at net.arcs) a)
+  pub valid : HasSoundArcs net → (a : ℕ) → IsIn a (basics net.arcs s.mark) → IsValid ratios (length net.supply) (graph_of (ends_at net.arcs) a)
   valid sound a i = let h = sound a no_arc ((basics_hold net.arcs s.mark a).0 i).0 in is_valid (length net.supply) (ends_at net.arcs a) h.joins h.gain
 
   -- the same in ascending order

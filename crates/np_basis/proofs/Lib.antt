@@ -11,3 +11,6 @@ pub mod Reading
 pub mod Examples
 pub mod Directions
 pub mod Sound
+pub mod Held
+pub mod Pivoting
+pub mod ToPieces

@@ -1,15 +1,16 @@
 -- The laws of directions and of pivots.
-use Rattle.std.specs.Prelude.{◌≡◌, ◌≢◌, ℕ, ◌<◌, List, ◌∷◌, length}
-use Rattle.gain_graphs.specs.Arcs.{IsIn}
-use Rattle.np_frac.specs.Ratio.{Ratio}
+use Rattle.std.specs.Prelude.{◌≡◌, ◌≢◌, ◌↔◌, ℕ, ◌<◌, ◌≤◌, List, ◌∷◌, length}
+use Rattle.gain_graphs.specs.Arcs.{IsIn, Touches}
+use Rattle.np_frac.specs.Ratio.{Ratio, zero_ratio}
+use Rattle.np_model.specs.declared.log.Entry.{Entry}
 use Rattle.np_model.specs.declared.log.Mark.TheVariants.{Basic}
-use Rattle.np_model.specs.Network.Flows.{Network}
-use Rattle.np_model.specs.Basis.Graphs.{ends_at}
-use Rattle.np_model.specs.Basis.Pieces.{PieceLists, nodes_of, basics_of, AreApart}
-use Rattle.np_model.specs.Basis.States.{Values, basics, IsForest}
+use Rattle.np_model.specs.Network.Flows.{Network, at}
+use Rattle.np_model.specs.Basis.Graphs.{graph_ends, ends_at}
+use Rattle.np_model.specs.Basis.Pieces.{PieceLists, nodes_in, nodes_of, basics_of, AreApart}
+use Rattle.np_model.specs.Basis.States.{State, Values, values_of, basics, IsForest, IsPieceOf, IsState}
 use Rattle.np_model.specs.Basis.Moves.{IsDirection}
-use Rattle.np_model.specs.Basis.Pivots.{node_numbers, arc_numbers}
-use Rattle.np_model.specs.Basis.Sound.{IsInNet, HoldEnds}
+use Rattle.np_model.specs.Basis.Pivots.{node_numbers, arc_numbers, IsPivot}
+use Rattle.np_model.specs.Basis.Sound.{values_in, IsInNet, AreOneOrTwo, AreInOrder, HoldEnds, IsAfter}
 use Rattle.np_basis.specs.Laws.{HasSoundArcs}
 
 -- ---- directions of pieces
@@ -56,3 +57,63 @@ abbrev pub WholeDirectionIsUnique : Type 0
 WholeDirectionIsUnique = (net : Network) (s : Values) (enter : ℕ) (by : Ratio) (d e : ℕ → Ratio) → HasSoundArcs net → IsForest net s.mark
     → enter < length net.arcs → s.mark enter ≢ Basic → IsDirectionIn net s enter by d → IsDirectionIn net s enter by e
     → (a : ℕ) → a < length net.arcs → d a ≡ e a
+
+-- ---- pieces of a state
+
+-- a network of sound arcs, of which the first ones, so many, are real
+pub record HasRealArcs (net : Network) (real : ℕ) : Type 0 where
+  pub sound : HasSoundArcs net
+  pub few : real ≤ length net.arcs
+
+-- pieces of what these values say that share no node
+pub record ArePiecesOf (net : Network) (s : Values) (pieces : List PieceLists) : Type 0 where
+  pub each : (p : PieceLists) → IsIn p pieces → IsPieceOf net s p
+  pub apart : AreApart pieces
+
+-- a direction of a state is one of the pieces that hold the ends of its arc, and 0 off them
+pub record IsLocal (net : Network) (pieces : List PieceLists) (enter : ℕ) (by : Ratio) (d : ℕ → Ratio) : Type 0 where
+  pub there : IsDirectionOf net pieces enter by d
+  pub off : (a : ℕ) → a < length net.arcs → (¬ IsIn a (enter ∷ basics_of pieces)) → d a ≡ zero_ratio
+
+abbrev pub DirectionIsLocal : Type 0
+DirectionIsLocal = (net : Network) (s : State) (pieces : List PieceLists) (enter : ℕ) (by : Ratio) (d : ℕ → Ratio) → HasSoundArcs net → IsState net s
+    → ArePiecesOf net (values_of s) pieces → MayEnter net pieces enter → IsDirectionIn net (values_of s) enter by d → IsLocal net pieces enter by d
+
+-- ---- pivots
+
+-- a pivot keeps every other piece than those that hold the ends of its entering arc, with its potentials, flows and marks
+abbrev pub OthersAreKept : Type 0
+OthersAreKept = (net : Network) (real : ℕ) (s : State) (entry : Entry) (after : State) (pieces : List PieceLists) (other : PieceLists)
+    → HasRealArcs net real → IsState net s → IsPivot net real s entry after → ArePiecesOf net (values_of s) pieces
+    → HoldEnds pieces (ends_at net.arcs entry.enter) → IsPieceOf net (values_of s) other
+    → ((v : ℕ) → IsIn v (nodes_in other) → ¬ IsIn v (nodes_of pieces)) → IsPieceOf net (values_of after) other
+
+-- pieces of the state after, on the nodes of these pieces
+pub record ArePiecesAfter (net : Network) (pieces : List PieceLists) (after : State) (others : List PieceLists) : Type 0 where
+  pub pieces_of : ArePiecesOf net (values_of after) others
+  pub same_nodes : (v : ℕ) → IsIn v (nodes_of pieces) ↔ IsIn v (nodes_of others)
+
+-- pieces become others by a pivot exactly where the state whose pieces they are has a pivot by the same entry, after which the others are its
+-- pieces on the same nodes
+abbrev pub AfterIsExactly : Type 0
+AfterIsExactly = (net : Network) (real : ℕ) (s : State) (entry : Entry) (pieces others : List PieceLists) → HasRealArcs net real → IsState net s
+    → ArePiecesOf net (values_of s) pieces → AreOneOrTwo pieces → AreInOrder others → HoldEnds pieces (ends_at net.arcs entry.enter)
+    → IsAfter net real pieces entry others ↔ ((after : State) × IsPivot net real s entry after × ArePiecesAfter net pieces after others)
+
+-- a state becomes another where these pieces stand in place of what it says of their nodes and of the arcs that touch them
+pub record IsReplaced (net : Network) (s : State) (pieces : List PieceLists) (after : State) : Type 0 where
+  pub marks_in : (a : ℕ) → a < length net.arcs → Touches (nodes_of pieces) (graph_ends (ends_at net.arcs a))
+      → (values_of after).mark a ≡ (values_in net pieces).mark a
+  pub marks_off : (a : ℕ) → a < length net.arcs → (¬ Touches (nodes_of pieces) (graph_ends (ends_at net.arcs a)))
+      → (values_of after).mark a ≡ (values_of s).mark a
+  pub flows_in : (a : ℕ) → a < length net.arcs → Touches (nodes_of pieces) (graph_ends (ends_at net.arcs a))
+      → at after.flows a ≡ (values_in net pieces).flow a
+  pub flows_off : (a : ℕ) → a < length net.arcs → (¬ Touches (nodes_of pieces) (graph_ends (ends_at net.arcs a))) → at after.flows a ≡ at s.flows a
+  pub potentials_in : (v : ℕ) → IsIn v (nodes_of pieces) → at after.potentials v ≡ (values_in net pieces).potential v
+  pub potentials_off : (v : ℕ) → v < length net.supply → (¬ IsIn v (nodes_of pieces)) → at after.potentials v ≡ at s.potentials v
+
+-- so the state after a pivot is the one before with its new pieces in place of the old ones
+abbrev pub PivotReplaces : Type 0
+PivotReplaces = (net : Network) (real : ℕ) (s : State) (entry : Entry) (after : State) (pieces others : List PieceLists) → HasRealArcs net real
+    → IsState net s → ArePiecesOf net (values_of s) pieces → HoldEnds pieces (ends_at net.arcs entry.enter) → IsPivot net real s entry after
+    → ArePiecesAfter net pieces after others → IsReplaced net s others after
