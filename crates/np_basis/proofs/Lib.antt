@@ -14,3 +14,4 @@ pub mod Sound
 pub mod Held
 pub mod Pivoting
 pub mod ToPieces
+pub mod Leaving
