@@ -15,3 +15,5 @@ pub mod Held
 pub mod Pivoting
 pub mod ToPieces
 pub mod Leaving
+pub mod Balanced
+pub mod Made
