@@ -17,3 +17,5 @@ pub mod ToPieces
 pub mod Leaving
 pub mod Balanced
 pub mod Made
+pub mod FromPieces
+pub mod Roots

@@ -179,7 +179,7 @@ module _ (net : Network) (real : ℕ) (s : State) (ps : List PieceLists) (entry 
 
   -- ---- its flows
 
-  is_feasible : Feasible net made.flows
+  pub is_feasible : Feasible net made.flows
   is_feasible = record {
     one_each = length_flows;
     balanced = balanced;
@@ -201,7 +201,7 @@ module _ (net : Network) (real : ℕ) (s : State) (ps : List PieceLists) (entry 
           ∙ unmoved (graph.balance ratios (graph_of (ends_at net.arcs)) (at s.flows) (arc_numbers net) v) h.step (graph.balance ratios (graph_of (ends_at net.arcs)) whole (arc_numbers net) v) (nothing v l)
           ∙ sym (balance_of net g.ground.sound s.flows g.state.feasible.one_each v) ∙ g.state.feasible.balanced v l
 
-  stands : (a : ℕ) → a < length net.arcs → StandsAt (arc_at net.arcs a) ((values_of made).mark a) (at made.flows a)
+  pub stands : (a : ℕ) → a < length net.arcs → StandsAt (arc_at net.arcs a) ((values_of made).mark a) (at made.flows a)
   stands a l = subst (λ m. StandsAt (arc_at net.arcs a) m (at made.flows a)) (sym (made_mark a l))
       (subst (StandsAt (arc_at net.arcs a) (mark_after entry (values_of s).mark a)) (sym (made_flow a l)) (go (ℕ_discrete a entry.leave) (ℕ_discrete a entry.enter)))
     where
@@ -271,5 +271,5 @@ module _ (net : Network) (real : ℕ) (s : State) (ps : List PieceLists) (entry 
       leave_among : IsIn entry.leave (entry.enter ∷ basics net.arcs (values_of s).mark)
       leave_among = elim leave_in [ inl e ↦ inl e | inr i ↦ (let r = held.of_pieces net g.ground.sound (values_of s) ps g.pieces entry.leave i in inr ((basics_hold net.arcs (values_of s).mark entry.leave).1 (r.0, r.1))) ]
 
-  is_forest : IsForest net (values_of made).mark
+  pub is_forest : IsForest net (values_of made).mark
   is_forest least nodes arcs p = leaving.tree_of_part net g.ground.sound (node_numbers net) (basics net.arcs (values_of made).mark) basis least nodes arcs p (node_number net least ((p.joined least).0 p.has_least).0)

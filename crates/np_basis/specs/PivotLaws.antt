@@ -1,13 +1,16 @@
 -- The laws of directions and of pivots.
-use Rattle.std.specs.Prelude.{◌≡◌, ◌≢◌, ◌↔◌, ℕ, ◌<◌, ◌≤◌, List, ◌∷◌, length}
-use Rattle.gain_graphs.specs.Arcs.{IsIn, Touches}
+use Rattle.std.specs.Prelude.{◌≡◌, ◌≢◌, ◌⊎◌, ◌↔◌, ℕ, ◌<◌, ◌≤◌, List, [], ◌∷◌, map, length}
+use Rattle.gain_graphs.specs.Arcs.{IsIn, AreDistinct, Touches, AreJoined}
+use Rattle.gain_graphs.specs.QuasiTrees.{IsQuasiTree}
 use Rattle.np_frac.specs.Ratio.{Ratio, zero_ratio}
+use Rattle.np_model.specs.declared.arc.Ends.{Ends}
+use Rattle.np_model.specs.declared.arc.Ends.TheVariants.{Link, Drain, Feed}
 use Rattle.np_model.specs.declared.log.Entry.{Entry}
 use Rattle.np_model.specs.declared.log.Mark.TheVariants.{Basic}
 use Rattle.np_model.specs.Network.Flows.{Network, at}
-use Rattle.np_model.specs.Basis.Graphs.{graph_ends, ends_at}
+use Rattle.np_model.specs.Basis.Graphs.{ratios, graph_ends, graph_of, ends_at}
 use Rattle.np_model.specs.Basis.Pieces.{PieceLists, nodes_in, nodes_of, basics_of, AreApart}
-use Rattle.np_model.specs.Basis.States.{State, Values, values_of, basics, IsForest, IsPieceOf, IsState}
+use Rattle.np_model.specs.Basis.States.{State, Values, values_of, basics, IsPartOf, IsForest, IsPieceOf, IsState}
 use Rattle.np_model.specs.Basis.Moves.{IsDirection}
 use Rattle.np_model.specs.Basis.Pivots.{node_numbers, arc_numbers, IsPivot}
 use Rattle.np_model.specs.Basis.Sound.{values_in, IsInNet, AreOneOrTwo, AreInOrder, HoldEnds, IsAfter}
@@ -117,3 +120,68 @@ abbrev pub PivotReplaces : Type 0
 PivotReplaces = (net : Network) (real : ℕ) (s : State) (entry : Entry) (after : State) (pieces others : List PieceLists) → HasRealArcs net real
     → IsState net s → ArePiecesOf net (values_of s) pieces → HoldEnds pieces (ends_at net.arcs entry.enter) → IsPivot net real s entry after
     → ArePiecesAfter net pieces after others → IsReplaced net s others after
+
+-- ---- the pieces that an arc needs
+
+-- a link with one end among these nodes and the other among those
+abbrev pub LinksBoth : List ℕ → List ℕ → Ends → Type 0
+LinksBoth ns ms (Link from to gain) = (IsIn from ns × IsIn to ms) ⊎ (IsIn from ms × IsIn to ns)
+LinksBoth ns ms (Drain at) = ⊥
+LinksBoth ns ms (Feed at) = ⊥
+
+-- one piece that holds the ends of the arc, or two that it links
+abbrev pub AreNeededFor : List PieceLists → Ends → Type 0
+AreNeededFor [] ends = ⊥
+AreNeededFor (p ∷ []) ends = HoldEnds (p ∷ []) ends
+AreNeededFor (p ∷ q ∷ []) ends = LinksBoth (nodes_in p) (nodes_in q) ends
+AreNeededFor (p ∷ q ∷ r ∷ rest) ends = ⊥
+
+-- each arc needs one or two pieces of what is marked, and they hold its ends
+pub record Needed (net : Network) (s : Values) (ends : Ends) : Type 0 where
+  pub pieces : List PieceLists
+  pub pieces_of : ArePiecesOf net s pieces
+  pub few : AreOneOrTwo pieces
+  pub needed : AreNeededFor pieces ends
+  pub hold : HoldEnds pieces ends
+
+abbrev pub PiecesHold : Type 0
+PiecesHold = (net : Network) (s : Values) (a : ℕ) → HasSoundArcs net → a < length net.arcs → Needed net s (ends_at net.arcs a)
+
+-- a pivot on the pieces that its entering arc needs gives one or two pieces on their nodes, and they are in order
+abbrev pub AtMostTwo : Type 0
+AtMostTwo = (net : Network) (real : ℕ) (s : State) (entry : Entry) (after : State) (pieces : List PieceLists) → HasRealArcs net real → IsState net s
+    → ArePiecesOf net (values_of s) pieces → AreNeededFor pieces (ends_at net.arcs entry.enter) → IsPivot net real s entry after
+    → (others : List PieceLists) × AreInOrder others × ArePiecesAfter net pieces after others
+
+-- the state before and the entry determine the state after
+abbrev pub PivotIsUnique : Type 0
+PivotIsUnique = (net : Network) (real : ℕ) (s : State) (entry : Entry) (x y : State) → HasRealArcs net real → IsState net s
+    → IsPivot net real s entry x → IsPivot net real s entry y → x ≡ y
+
+-- ---- the exchange of pieces, with no state at hand
+
+-- the basic arcs of the pieces, after this arc came in and one of them went out
+pub record AreBasicAfter (pieces : List PieceLists) (enter leave : ℕ) (now : List ℕ) : Type 0 where
+  pub once : AreDistinct now
+  pub are : (a : ℕ) → IsIn a now ↔ (IsIn a (enter ∷ basics_of pieces) × (a ≢ leave))
+
+-- where the direction moves the arc that leaves, each part with a node of the pieces is a quasi-tree
+abbrev pub TreesAfter : Type 0
+TreesAfter = (net : Network) (pieces : List PieceLists) (enter leave : ℕ) (by : Ratio) (d : ℕ → Ratio) (now nodes numbers : List ℕ) (v : ℕ)
+    → HasSoundArcs net → AreInNet net pieces → MayEnter net pieces enter → IsDirectionOf net pieces enter by d
+    → IsIn leave (enter ∷ basics_of pieces) → d leave ≢ zero_ratio → AreBasicAfter pieces enter leave now
+    → IsPartOf net now nodes numbers → IsIn v nodes → IsIn v (nodes_of pieces)
+    → IsQuasiTree ratios nodes (map (graph_of (ends_at net.arcs)) numbers)
+
+-- each of their nodes lies in such a part, which has no other nodes than theirs
+abbrev pub PartAfterExists : Type 0
+PartAfterExists = (net : Network) (pieces : List PieceLists) (enter leave : ℕ) (now : List ℕ) (v : ℕ) → HasSoundArcs net → AreInNet net pieces
+    → MayEnter net pieces enter → AreBasicAfter pieces enter leave now → IsIn v (nodes_of pieces)
+    → (nodes : List ℕ) × (numbers : List ℕ) × IsPartOf net now nodes numbers × IsIn v nodes × ((u : ℕ) → IsIn u nodes → IsIn u (nodes_of pieces))
+
+-- and where the entering arc needs the pieces, each node is joined to one of two: so there are one or two parts
+abbrev pub TwoRoots : Type 0
+TwoRoots = (net : Network) (pieces : List PieceLists) (enter leave : ℕ) (now : List ℕ) → HasSoundArcs net → AreInNet net pieces
+    → MayEnter net pieces enter → AreNeededFor pieces (ends_at net.arcs enter) → IsIn leave (enter ∷ basics_of pieces)
+    → AreBasicAfter pieces enter leave now → (x : ℕ) × (y : ℕ) × IsIn x (nodes_of pieces) × IsIn y (nodes_of pieces)
+    × ((u : ℕ) → IsIn u (nodes_of pieces) → AreJoined (map (graph_of (ends_at net.arcs)) now) u x ⊎ AreJoined (map (graph_of (ends_at net.arcs)) now) u y)
