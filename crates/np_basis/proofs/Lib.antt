@@ -19,3 +19,5 @@ pub mod Balanced
 pub mod Made
 pub mod FromPieces
 pub mod Roots
+pub mod Few
+pub mod Unique

@@ -48,7 +48,7 @@ not_towards d marked.Lower h e = cc
 not_towards d marked.Upper h e = cc
 not_towards d marked.Basic h e = h
 
-not_gaining : (m : Mark) (r : Ratio) → Gains m r → m ≢ marked.Basic
+pub not_gaining : (m : Mark) (r : Ratio) → Gains m r → m ≢ marked.Basic
 not_gaining marked.Lower r k e = cc
 not_gaining marked.Upper r k e = cc
 not_gaining marked.Basic r k e = k
