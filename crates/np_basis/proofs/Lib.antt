@@ -21,3 +21,4 @@ pub mod FromPieces
 pub mod Roots
 pub mod Few
 pub mod Unique
+pub mod StageOne

@@ -2,18 +2,21 @@
 use Rattle.std.specs.Prelude.{◌≡◌, ◌≢◌, ◌⊎◌, ◌↔◌, ℕ, ◌<◌, ◌≤◌, List, [], ◌∷◌, map, length}
 use Rattle.gain_graphs.specs.Arcs.{IsIn, AreDistinct, Touches, AreJoined}
 use Rattle.gain_graphs.specs.QuasiTrees.{IsQuasiTree}
-use Rattle.np_frac.specs.Ratio.{Ratio, zero_ratio}
+use Rattle.np_frac.specs.Ratio.{Ratio, zero_ratio, ◌≤ᵣ◌, ◌<ᵣ◌}
 use Rattle.np_model.specs.declared.arc.Ends.{Ends}
 use Rattle.np_model.specs.declared.arc.Ends.TheVariants.{Link, Drain, Feed}
 use Rattle.np_model.specs.declared.log.Entry.{Entry}
 use Rattle.np_model.specs.declared.log.Mark.TheVariants.{Basic}
+use Rattle.np_model.specs.declared.network.FullNet.{FullNet}
+use Rattle.np_model.specs.declared.phase.Phase.TheVariants.{One}
 use Rattle.np_model.specs.Network.Flows.{Network, at}
-use Rattle.np_model.specs.Basis.Graphs.{ratios, graph_ends, graph_of, ends_at}
+use Rattle.np_model.specs.Basis.Graphs.{ratios, graph_ends, graph_of, ends_at, cost_at}
+use Rattle.np_model.specs.Basis.Phases.{phase_net, real_arcs}
 use Rattle.np_model.specs.Basis.Pieces.{PieceLists, nodes_in, nodes_of, basics_of, AreApart}
 use Rattle.np_model.specs.Basis.States.{State, Values, values_of, basics, IsPartOf, IsForest, IsPieceOf, IsState}
-use Rattle.np_model.specs.Basis.Moves.{IsDirection}
+use Rattle.np_model.specs.Basis.Moves.{sign, KeepsBounds, IsDirection, IsEligible}
 use Rattle.np_model.specs.Basis.Pivots.{node_numbers, arc_numbers, IsPivot}
-use Rattle.np_model.specs.Basis.Sound.{values_in, IsInNet, AreOneOrTwo, AreInOrder, HoldEnds, IsAfter}
+use Rattle.np_model.specs.Basis.Sound.{values_in, IsInNet, AreSound, AreOneOrTwo, AreInOrder, HoldEnds, IsAfter}
 use Rattle.np_basis.specs.Laws.{HasSoundArcs}
 
 -- ---- directions of pieces
@@ -185,3 +188,29 @@ TwoRoots = (net : Network) (pieces : List PieceLists) (enter leave : ℕ) (now :
     → MayEnter net pieces enter → AreNeededFor pieces (ends_at net.arcs enter) → IsIn leave (enter ∷ basics_of pieces)
     → AreBasicAfter pieces enter leave now → (x : ℕ) × (y : ℕ) × IsIn x (nodes_of pieces) × IsIn y (nodes_of pieces)
     × ((u : ℕ) → IsIn u (nodes_of pieces) → AreJoined (map (graph_of (ends_at net.arcs)) now) u x ⊎ AreJoined (map (graph_of (ends_at net.arcs)) now) u y)
+
+-- ---- stage one
+
+-- a direction falls on one of these arcs, and so some step along it goes below the lower bound there
+pub record ComesToBound (net : Network) (s : Values) (numbers : List ℕ) (d : ℕ → Ratio) : Type 0 where
+  pub arc : ℕ
+  pub is_one : IsIn arc numbers
+  pub falls : d arc <ᵣ zero_ratio
+  pub step : Ratio
+  pub forwards : zero_ratio ≤ᵣ step
+  pub too_far : ¬ KeepsBounds net s numbers d step
+
+-- where no arc costs less than 0, the direction of an eligible arc comes to a bound
+abbrev pub NoRayAtNonnegativeCosts : Type 0
+NoRayAtNonnegativeCosts = (net : Network) (real : ℕ) (pieces : List PieceLists) (enter : ℕ) (d : ℕ → Ratio) → HasRealArcs net real
+    → ((a : ℕ) → a < length net.arcs → zero_ratio ≤ᵣ cost_at net.arcs a) → AreSound net pieces → HoldEnds pieces (ends_at net.arcs enter)
+    → IsEligible net real (values_in net pieces) enter → IsDirectionOf net pieces enter (sign ((values_in net pieces).mark enter)) d
+    → ComesToBound net (values_in net pieces) (enter ∷ basics_of pieces) d
+
+-- so it does in stage one
+abbrev pub NoRayInStageOne : Type 0
+NoRayInStageOne = (full : FullNet) (pieces : List PieceLists) (enter : ℕ) (d : ℕ → Ratio) → AreSound (phase_net One full) pieces
+    → HoldEnds pieces (ends_at (phase_net One full).arcs enter)
+    → IsEligible (phase_net One full) (real_arcs full) (values_in (phase_net One full) pieces) enter
+    → IsDirectionOf (phase_net One full) pieces enter (sign ((values_in (phase_net One full) pieces).mark enter)) d
+    → ComesToBound (phase_net One full) (values_in (phase_net One full) pieces) (enter ∷ basics_of pieces) d
