@@ -22,3 +22,4 @@ pub mod Roots
 pub mod Few
 pub mod Unique
 pub mod StageOne
+pub mod PivotExample

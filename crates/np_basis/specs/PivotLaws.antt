@@ -2,11 +2,13 @@
 use Rattle.std.specs.Prelude.{◌≡◌, ◌≢◌, ◌⊎◌, ◌↔◌, ℕ, ◌<◌, ◌≤◌, List, [], ◌∷◌, map, length}
 use Rattle.gain_graphs.specs.Arcs.{IsIn, AreDistinct, Touches, AreJoined}
 use Rattle.gain_graphs.specs.QuasiTrees.{IsQuasiTree}
-use Rattle.np_frac.specs.Ratio.{Ratio, zero_ratio, ◌≤ᵣ◌, ◌<ᵣ◌}
+use Rattle.np_frac.specs.Ratio.{Ratio, zero_ratio, one_ratio, ◌≤ᵣ◌, ◌<ᵣ◌}
 use Rattle.np_model.specs.declared.arc.Ends.{Ends}
 use Rattle.np_model.specs.declared.arc.Ends.TheVariants.{Link, Drain, Feed}
+use Rattle.np_model.specs.declared.arc.Upper.TheVariants.{Infinite}
+use Rattle.np_model.specs.declared.arc.NetArc.{NetArc}
 use Rattle.np_model.specs.declared.log.Entry.{Entry}
-use Rattle.np_model.specs.declared.log.Mark.TheVariants.{Basic}
+use Rattle.np_model.specs.declared.log.Mark.TheVariants.{Lower, Basic}
 use Rattle.np_model.specs.declared.network.FullNet.{FullNet}
 use Rattle.np_model.specs.declared.phase.Phase.TheVariants.{One}
 use Rattle.np_model.specs.Network.Flows.{Network, at}
@@ -214,3 +216,24 @@ NoRayInStageOne = (full : FullNet) (pieces : List PieceLists) (enter : ℕ) (d :
     → IsEligible (phase_net One full) (real_arcs full) (values_in (phase_net One full) pieces) enter
     → IsDirectionOf (phase_net One full) pieces enter (sign ((values_in (phase_net One full) pieces).mark enter)) d
     → ComesToBound (phase_net One full) (values_in (phase_net One full) pieces) (enter ∷ basics_of pieces) d
+
+-- ---- an example
+
+-- a node of supply 1 with two drains, one that costs nothing and one that costs 1
+abbrev pub drain_of : Ratio → NetArc
+drain_of cost = record { ends = Drain 0; lower = zero_ratio; upper = Infinite; cost = cost }
+
+abbrev pub two_drains : Network
+two_drains = record { supply = one_ratio ∷ []; arcs = drain_of zero_ratio ∷ drain_of one_ratio ∷ [] }
+
+-- the dear drain is basic and takes the supply; the cheap one enters, and takes it all
+abbrev pub by_dear : State
+by_dear = record { marks = Lower ∷ Basic ∷ []; flows = zero_ratio ∷ one_ratio ∷ []; potentials = one_ratio ∷ [] }
+
+abbrev pub by_cheap : State
+by_cheap = record { marks = Basic ∷ Lower ∷ []; flows = one_ratio ∷ zero_ratio ∷ []; potentials = zero_ratio ∷ [] }
+
+pub record HasPivot : Type 0 where
+  pub ground : HasRealArcs two_drains 2
+  pub state : IsState two_drains by_dear
+  pub pivot : IsPivot two_drains 2 by_dear (record { enter = 0; leave = 1; leave_at = Lower }) by_cheap
