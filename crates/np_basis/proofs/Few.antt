@@ -162,8 +162,11 @@ module _ (net : Network) (real : ℕ) (s : State) (ps : List PieceLists) (entry 
     within = λ u j. let w = walks.joined_trans (map (graph_of (ends_at net.arcs)) (basics net.arcs (values_of after).mark)) x r.1.part.least u
         (walks.joined_sym (map (graph_of (ends_at net.arcs)) (basics net.arcs (values_of after).mark)) r.1.part.least x to_root) ((r.1.part.is_piece.joined u).0 j).1 in
         (walks.within (λ y. IsIn y (nodes_of ps)) (map (graph_of (ends_at net.arcs)) (basics net.arcs (values_of after).mark)) (map (graph_of (ends_at net.arcs)) (basics net.arcs (values_of after).mark)) crossing w.0 x u i w.1).1;
-    reaches = λ u j w. (r.1.part.is_piece.joined u).1 (below u j, walks.joined_trans (map (graph_of (ends_at net.arcs)) (basics net.arcs (values_of after).mark)) r.1.part.least x u to_root
-        (walks.joined_sym (map (graph_of (ends_at net.arcs)) (basics net.arcs (values_of after).mark)) u x w));
+    reaches = λ u j w. (r.1.part.is_piece.joined u).1 (
+      below u j,
+      walks.joined_trans (map (graph_of (ends_at net.arcs)) (basics net.arcs (values_of after).mark)) r.1.part.least x u to_root
+          (walks.joined_sym (map (graph_of (ends_at net.arcs)) (basics net.arcs (values_of after).mark)) u x w),
+    );
   }
     where
       r : (p : PieceLists) × IsPieceOf net (values_of after) p × IsIn x (nodes_in p)

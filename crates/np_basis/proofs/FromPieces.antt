@@ -33,6 +33,7 @@ use Rattle.np_basis.proofs.Made as made
 use Rattle.np_basis.proofs.Pivoting as pivoting
 use Rattle.np_basis.proofs.Pivoting.{Given}
 use Rattle.np_basis.proofs.Reading.{in_flat, in_flat_of, touches_flat, price_same, rows_same}
+use Rattle.np_basis.proofs.Roots.{joined_more}
 use Rattle.np_basis.proofs.Sound as said
 use Rattle.np_basis.proofs.Sound.{lies_touch, touch_wider, touch_more}
 use Rattle.np_basis.proofs.ToPieces as to_pieces
@@ -99,8 +100,12 @@ module _ (net : Network) (real : ℕ) (s : State) (ps : List PieceLists) (entry 
       has_least = l.1;
       is_least = l.2;
       joined = λ v. (
-        (λ j. (c.in_net.nodes v j, (let w = tree.joined l.0 v l.1 j in (w.0, (walks.within (λ x. Unit {0}) (map (graph_of (ends_at net.arcs)) (basics_in p)) (map (graph_of (ends_at net.arcs)) (basics net.arcs (values_of after).mark)) (λ x y k q t. (up (graph.Link x y k) q, tt, tt)) w.0 l.0 v tt w.1).0)))),
-        (λ r. (walks.within (λ x. IsIn x (nodes_in p)) (map (graph_of (ends_at net.arcs)) (basics net.arcs (values_of after).mark)) (map (graph_of (ends_at net.arcs)) (basics net.arcs (values_of after).mark)) (crossing p i) r.1.0 l.0 v l.1 r.1.1).1),
+        (λ j. (
+          c.in_net.nodes v j,
+          joined_more (graph_of (ends_at net.arcs)) (basics_in p) (basics net.arcs (values_of after).mark) (own_basic p i) l.0 v (tree.joined l.0 v l.1 j),
+        )),
+        (λ r. (walks.within (λ x. IsIn x (nodes_in p)) (map (graph_of (ends_at net.arcs)) (basics net.arcs (values_of after).mark)) (map (graph_of (ends_at net.arcs)) (basics net.arcs (values_of after).mark))
+            (crossing p i) r.1.0 l.0 v l.1 r.1.1).1),
       );
       touched = λ a. ((λ j. (own_basic p i a j, own_touch p i a j)), (λ r. basic_own p i a r.0 r.1));
     };
@@ -118,10 +123,6 @@ module _ (net : Network) (real : ℕ) (s : State) (ps : List PieceLists) (entry 
           go : (ns : List ℕ) → (v : ℕ) × IsIn v ns → (least : ℕ) × IsIn least ns × ((v : ℕ) → IsIn v ns → least ≤ v)
           go [] w = absurd w.1
           go (n ∷ ns) w = least_of n ns
-
-      up : (e : graph.Ends Ratio) → IsIn e (map (graph_of (ends_at net.arcs)) (basics_in p)) → IsIn e (map (graph_of (ends_at net.arcs)) (basics net.arcs (values_of after).mark))
-      up e j = let r = in_map_of (graph_of (ends_at net.arcs)) e (basics_in p) j in
-          subst (λ t. IsIn t (map (graph_of (ends_at net.arcs)) (basics net.arcs (values_of after).mark))) (sym r.2) (in_map (graph_of (ends_at net.arcs)) r.0 (basics net.arcs (values_of after).mark) (own_basic p i r.0 r.1))
 
   own_potential : (p : PieceLists) → IsIn p others → (v : ℕ) → IsIn v (nodes_in p) → at after.potentials v ≡ (values_in net (p ∷ [])).potential v
   unfolding after
@@ -151,7 +152,9 @@ module _ (net : Network) (real : ℕ) (s : State) (ps : List PieceLists) (entry 
     part = own_part p i;
     read_off = record {
       marks_ascend = c.in_net.shape.marks_ascend;
-      potentials = λ n j. sym (own_potential p i n.0 (in_map (λ (x : ℕ × Ratio). x.0) n p.nodes j) ∙ sym (said.alone net others h.sound_after p i n.0 (in_map (λ (x : ℕ × Ratio). x.0) n p.nodes j)) ∙ said.potential_of net others h.sound_after p n i j);
+      potentials = λ n j.
+          let k : IsIn n.0 (nodes_in p) = in_map (λ (x : ℕ × Ratio). x.0) n p.nodes j in
+          sym (own_potential p i n.0 k ∙ sym (said.alone net others h.sound_after p i n.0 k) ∙ said.potential_of net others h.sound_after p n i j);
       basic = λ b j. ((c.in_net.basic b j).1, sym (own_flow p i b j));
       marked = λ a. (
         (λ j. let k = (c.in_net.marked a).0 j in (k.0, (λ e. k.1 (basic_own p i a ((basics_hold net.arcs (values_of after).mark a).1 (k.0, e)) k.2)), k.2)),
@@ -277,11 +280,11 @@ module _ (net : Network) (real : ℕ) (s : State) (ps : List PieceLists) (entry 
             least = part.least;
             is_piece = graph_pieces.kept ratios (length net.supply) (graph_of (ends_at net.arcs)) (basics net.arcs (values_of after).mark) (basics net.arcs (values_of s).mark) part.least nodes numbers part.is_piece
                 (cutting.valid net (values_of after) g.ground.sound) (λ a t. (
-              (λ i. let l = (basics_hold net.arcs (values_of after).mark a).0 i in
-                  (basics_hold net.arcs (values_of s).mark a).1 (l.0, sym (made.mark_out net real s ps entry g others h a l.0 (untouched a t)) ∙ l.1)),
-              (λ i. let l = (basics_hold net.arcs (values_of s).mark a).0 i in
-                  (basics_hold net.arcs (values_of after).mark a).1 (l.0, made.mark_out net real s ps entry g others h a l.0 (untouched a t) ∙ l.1)),
-            ));
+                  (λ i. let l = (basics_hold net.arcs (values_of after).mark a).0 i in
+                      (basics_hold net.arcs (values_of s).mark a).1 (l.0, sym (made.mark_out net real s ps entry g others h a l.0 (untouched a t)) ∙ l.1)),
+                  (λ i. let l = (basics_hold net.arcs (values_of s).mark a).0 i in
+                      (basics_hold net.arcs (values_of after).mark a).1 (l.0, made.mark_out net real s ps entry g others h a l.0 (untouched a t) ∙ l.1)),
+                ));
           }
 
   is_state : IsState net after

@@ -171,9 +171,9 @@ module _ (net : Network) (sound : HasSoundArcs net) (nodes basic : List ℕ) (b 
     even : length its ≡ length ms
     even =
         let a : length ms ≤ length (map (graph_of (ends_at net.arcs)) its) = rigid.enough ratios ms (map (graph_of (ends_at net.arcs)) its) q.nodes_once mine.ends
-            (parts.part_rigid ratios nodes (map (graph_of (ends_at net.arcs)) basic) ms (map (graph_of (ends_at net.arcs)) its) mine b.is_rigid) in
+        (parts.part_rigid ratios nodes (map (graph_of (ends_at net.arcs)) basic) ms (map (graph_of (ends_at net.arcs)) its) mine b.is_rigid) in
         let c : length left_nodes.rest ≤ length (map (graph_of (ends_at net.arcs)) left_arcs.rest) = rigid.enough ratios left_nodes.rest (map (graph_of (ends_at net.arcs)) left_arcs.rest) left_nodes.apart yours.ends
-            (parts.part_rigid ratios nodes (map (graph_of (ends_at net.arcs)) basic) left_nodes.rest (map (graph_of (ends_at net.arcs)) left_arcs.rest) yours b.is_rigid) in
+        (parts.part_rigid ratios nodes (map (graph_of (ends_at net.arcs)) basic) left_nodes.rest (map (graph_of (ends_at net.arcs)) left_arcs.rest) yours b.is_rigid) in
         let e : length (map (graph_of (ends_at net.arcs)) its) ≡ length its = length_map (graph_of (ends_at net.arcs)) its in
         let f : length (map (graph_of (ends_at net.arcs)) left_arcs.rest) ≡ length left_arcs.rest = length_map (graph_of (ends_at net.arcs)) left_arcs.rest in
         let g : length nodes ≡ length ms + length left_nodes.rest = left_nodes.adds in

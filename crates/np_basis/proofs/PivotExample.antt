@@ -23,7 +23,7 @@ use Rattle.np_model.specs.Basis.Moves.{Stops, balance_on, mark_after}
 use Rattle.np_model.specs.Basis.Pivots.{arc_numbers}
 use Rattle.np_model.specs.Basis.States.{values_of, price, StandsAt, basics, IsPart, IsForest, IsState}
 use Rattle.np_model.specs.Rows.Potentials.{PotentialsFit}
-use Rattle.np_basis.specs.PivotLaws.{HasRealArcs, two_drains, by_dear, by_cheap, HasPivot}
+use Rattle.np_basis.specs.PivotLaws.{HasRealArcs, drain_of, two_drains, by_dear, by_cheap, HasPivot}
 use Rattle.np_basis.proofs.Basics.{basics_hold}
 use Rattle.np_basis.proofs.Starting.{one_alone, one_end_fits}
 
@@ -156,8 +156,11 @@ free marked.Lower k = clash one_above k.towards
 free marked.Upper k = k.rests
 free marked.Basic k = k.towards
 
+drain_sound : (cost : Ratio) → IsSoundArc 1 (drain_of cost)
+drain_sound cost = record { joins = omega arith; gain = record {}; bounds = record {} }
+
 sound : HasRealArcs two_drains 2
-sound = record { sound = λ a other l. below_two (λ a. IsSoundArc 1 (get_or two_drains.arcs a other)) (record { joins = omega arith; gain = record {}; bounds = record {} }) (record { joins = omega arith; gain = record {}; bounds = record {} }) a l; few = omega arith }
+sound = record { sound = λ a other l. below_two (λ a. IsSoundArc 1 (get_or two_drains.arcs a other)) (drain_sound zero_ratio) (drain_sound one_ratio) a l; few = omega arith }
 
 pub has_pivot : HasPivot
 has_pivot = record {

@@ -180,9 +180,11 @@ module _ (net : Network) (real : ℕ) (s : State) (ps : List PieceLists) (entry 
         marks_ascend = r.read_off.marks_ascend;
         potentials = λ n i. r.read_off.potentials n i ∙ sym (off_potential n.0 (in_map (λ (x : ℕ × Ratio). x.0) n other.nodes i));
         basic = λ b i.
-            let k = basic_before b.0 (in_map (λ (x : ℕ × Ends × Ratio). x.0) b other.basics i) in
-            ((r.read_off.basic b i).0, (r.read_off.basic b i).1
-            ∙ sym (off_flow b.0 ((basics_hold net.arcs (values_of s).mark b.0).0 k.0).0 (away net real s ps entry g (nodes_in other) apart b.0 k.1)));
+            let k = basic_before b.0 (in_map (λ (x : ℕ × Ends × Ratio). x.0) b other.basics i) in (
+              (r.read_off.basic b i).0,
+              (r.read_off.basic b i).1
+                  ∙ sym (off_flow b.0 ((basics_hold net.arcs (values_of s).mark b.0).0 k.0).0 (away net real s ps entry g (nodes_in other) apart b.0 k.1)),
+            );
         marked = λ a. (
           (λ i. let k = (r.read_off.marked a).0 i in (k.0, (λ e. k.1 (sym (same_mark a k.0 k.2) ∙ e)), k.2)),
           (λ k. (r.read_off.marked a).1 (k.0, (λ e. k.1 (same_mark a k.0 k.2 ∙ e)), k.2)),

@@ -28,9 +28,12 @@ use Rattle.np_basis.proofs.Trees as trees
 
 -- nodes that links of some arcs join stay joined among more
 pub joined_more : (ends : ℕ → graph.Ends Ratio) (xs ys : List ℕ) → ((a : ℕ) → IsIn a xs → IsIn a ys) → (u v : ℕ) → AreJoined (map ends xs) u v → AreJoined (map ends ys) u v
-joined_more ends xs ys sub u v w = (w.0, (walks.within (λ z. Unit {0}) (map ends xs) (map ends ys) (λ i j g k t.
-    let r = in_map_of ends (graph.Link i j g) xs k in
-    (subst (λ x. IsIn x (map ends ys)) (sym r.2) (in_map ends r.0 ys (sub r.0 r.1)), tt, tt)) w.0 u v tt w.1).0)
+joined_more ends xs ys sub u v w = (
+  w.0,
+  (walks.within (λ z. Unit {0}) (map ends xs) (map ends ys) (λ i j g k t.
+      let r = in_map_of ends (graph.Link i j g) xs k in
+      (subst (λ x. IsIn x (map ends ys)) (sym r.2) (in_map ends r.0 ys (sub r.0 r.1)), tt, tt)) w.0 u v tt w.1).0,
+)
 
 -- the pieces that an arc needs hold its ends
 pub needed_hold : (ps : List PieceLists) (e : Ends) → (n : ℕ) → IsValid ratios n (graph_ends e) → AreNeededFor ps e → HoldEnds ps e

@@ -135,12 +135,12 @@ module _ (net : Network) (ps : List PieceLists) (sound : AreSound net ps) where
   flow_said p b i j = said (bound_at (arc_at net.arcs b.0) ((values_in net ps).mark b.0)) flows_of ps p (b.0, b.2) i
       (in_map (λ (c : ℕ × Ends × Ratio). (c.0, c.2)) b p.basics j)
       (λ q y k l e.
-        let r = in_map_of (λ (c : ℕ × Ends × Ratio). (c.0, c.2)) y q.basics l in
-        let f : r.0.0 ≡ b.0 = ap (λ (z : ℕ × Ratio). z.0) (sym r.2) ∙ e in
-        let own_arc : IsIn b.0 (basics_in q) = subst (λ t. IsIn t (basics_in q)) f (in_map (λ (c : ℕ × Ends × Ratio). c.0) r.0 q.basics r.1) in
-        let same : q ≡ p = own q p b.0 k i own_arc (lies_touch (nodes_in p) (graph_of (ends_at net.arcs) b.0) (inside p b.0 i (in_map (λ (c : ℕ × Ends × Ratio). c.0) b p.basics j))) in
-        ap (λ (z : ℕ × Ratio). z.1) r.2 ∙ ap (λ (c : ℕ × Ends × Ratio). c.2)
-        (one_entry (λ (c : ℕ × Ends × Ratio). c.0) p.basics (ascends (basics_in p) (sound.each p i).in_net.shape.basics_ascend) r.0 b (subst (λ t. IsIn r.0 t.basics) same r.1) j f))
+      let r = in_map_of (λ (c : ℕ × Ends × Ratio). (c.0, c.2)) y q.basics l in
+      let f : r.0.0 ≡ b.0 = ap (λ (z : ℕ × Ratio). z.0) (sym r.2) ∙ e in
+      let own_arc : IsIn b.0 (basics_in q) = subst (λ t. IsIn t (basics_in q)) f (in_map (λ (c : ℕ × Ends × Ratio). c.0) r.0 q.basics r.1) in
+      let same : q ≡ p = own q p b.0 k i own_arc (lies_touch (nodes_in p) (graph_of (ends_at net.arcs) b.0) (inside p b.0 i (in_map (λ (c : ℕ × Ends × Ratio). c.0) b p.basics j))) in
+      ap (λ (z : ℕ × Ratio). z.1) r.2 ∙ ap (λ (c : ℕ × Ends × Ratio). c.2)
+      (one_entry (λ (c : ℕ × Ends × Ratio). c.0) p.basics (ascends (basics_in p) (sound.each p i).in_net.shape.basics_ascend) r.0 b (subst (λ t. IsIn r.0 t.basics) same r.1) j f))
 
   -- an arc that is basic in none of them has the flow of its bound
   pub flow_off : (a : ℕ) → (¬ IsIn a (basics_of ps)) → (values_in net ps).flow a ≡ bound_at (arc_at net.arcs a) ((values_in net ps).mark a)

@@ -1,7 +1,8 @@
--- The state before a pivot and its entry determine the state after.
-use Rattle.std.specs.Prelude.{◌≡◌, ℕ, ◌<◌, length}
-use Rattle.std.proofs.Common.{sym, ap, ap₂, subst, ◌∙◌, arith}
+-- The state before a pivot and its entry determine the state after, and so do pieces of it the pieces after.
+use Rattle.std.specs.Prelude.{◌≡◌, ℕ, ◌<◌, List, [], ◌∷◌, length}
+use Rattle.std.proofs.Common.{refl, inl, inr, sym, ap, ap₂, subst, ◌∙◌, arith}
 use Rattle.std.proofs.lemmas.List.{ext_get_or}
+use Rattle.gain_graphs.specs.Arcs.{IsIn}
 use Rattle.np_frac.specs.Ratio.{zero_ratio, ◌+ᵣ◌, ◌*ᵣ◌}
 use Rattle.np_frac.proofs.RatioLaws.{≤ᵣ_antisym}
 use Rattle.np_model.specs.declared.log.Mark.TheVariants as marked
@@ -10,15 +11,19 @@ use Rattle.np_model.specs.Network.Arcs.{IsWithin}
 use Rattle.np_model.specs.Network.Flows.{Network, at}
 use Rattle.np_model.specs.Basis.Graphs.{arc_at, cost_at}
 use Rattle.np_model.specs.Basis.Moves.{sign, KeepsBounds}
+use Rattle.np_model.specs.Basis.Pieces.{PieceLists, nodes_in, least_node}
 use Rattle.np_model.specs.Basis.Pivots.{arc_numbers, IsPivot}
+use Rattle.np_model.specs.Basis.Sound.{AreInOrder}
 use Rattle.np_model.specs.Basis.States.{State, values_of, IsState}
-use Rattle.np_basis.specs.PivotLaws.{HasRealArcs, PivotIsUnique}
+use Rattle.np_basis.specs.PivotLaws.{HasRealArcs, ArePiecesAfter, PivotIsUnique, AfterIsUnique}
 use Rattle.np_basis.proofs.Basics.{basics_hold}
-use Rattle.np_basis.proofs.Cutting.{piece_exists}
+use Rattle.np_basis.proofs.Cutting.{piece_exists, piece_is_unique}
 use Rattle.np_basis.proofs.Directions.{whole_direction_is_unique}
+use Rattle.np_basis.proofs.FromPieces.{pivot}
 use Rattle.np_basis.proofs.Held.{arc_below}
+use Rattle.np_basis.proofs.Made.{given}
 use Rattle.np_basis.proofs.Pivoting.{not_gaining}
-use Rattle.np_basis.proofs.Reading.{piece_is_sound}
+use Rattle.np_basis.proofs.Reading.{in_flat, in_flat_of, piece_is_sound}
 use Rattle.np_basis.proofs.Trees.{potentials_are_unique}
 
 same_state : (p q : State) → p.marks ≡ q.marks → p.flows ≡ q.flows → p.potentials ≡ q.potentials → p ≡ q
@@ -64,3 +69,47 @@ module _ (net : Network) (real : ℕ) (ground : HasRealArcs net real) (s : State
 
 pub pivot_is_unique : PivotIsUnique
 pivot_is_unique net real s entry x y ground st v w = same net real ground s st entry x y v w
+
+-- ---- the pieces after
+
+-- two lists of pieces of a state on the same nodes, both in order
+module _ (net : Network) (x : State) (ps : List PieceLists) where
+  member : (others more : List PieceLists) → ArePiecesAfter net ps x others → ArePiecesAfter net ps x more → (o : PieceLists) → IsIn o others → IsIn o more
+  member others more h k o i =
+      let p = h.pieces_of.each o i in
+      let r = in_flat_of nodes_in more p.part.least ((k.same_nodes p.part.least).0 ((h.same_nodes p.part.least).1 (in_flat nodes_in others o p.part.least i p.part.is_piece.has_least))) in
+      subst (λ t. IsIn t more) (sym (piece_is_unique net (values_of x) o r.0 p.part.least p (k.pieces_of.each r.0 r.1) p.part.is_piece.has_least r.2)) r.1
+
+  one_of : {A : Type 0} (o r : A) → IsIn o (r ∷ []) → o ≡ r
+  one_of o r = elim [ inl e ↦ e | inr i ↦ absurd i ]
+
+  clash : (o q : PieceLists) → least_node o < least_node q → o ≡ q → ⊥
+  clash o q l e = let f : least_node o ≡ least_node q = ap least_node e in omega arith
+
+  same_lists : (others more : List PieceLists) → AreInOrder others → AreInOrder more → ((o : PieceLists) → IsIn o others → IsIn o more) → ((o : PieceLists) → IsIn o more → IsIn o others) → others ≡ more
+  same_lists [] more a b f g = absurd a
+  same_lists (o ∷ q ∷ z ∷ others) more a b f g = absurd a
+  same_lists (o ∷ []) [] a b f g = absurd b
+  same_lists (o ∷ []) (r ∷ []) a b f g = ap (λ t. t ∷ []) (one_of o r (f o (inl refl)))
+  same_lists (o ∷ []) (r ∷ t ∷ []) a b f g = absurd (clash r t b (one_of r o (g r (inl refl)) ∙ sym (one_of t o (g t (inr (inl refl))))))
+  same_lists (o ∷ []) (r ∷ t ∷ z ∷ more) a b f g = absurd b
+  same_lists (o ∷ q ∷ []) [] a b f g = absurd b
+  same_lists (o ∷ q ∷ []) (r ∷ []) a b f g = absurd (clash o q a (one_of o r (f o (inl refl)) ∙ sym (one_of q r (f q (inr (inl refl))))))
+  same_lists (o ∷ q ∷ []) (r ∷ t ∷ []) a b f g = elim (f o (inl refl)) [
+    | inl e ↦ elim (f q (inr (inl refl))) [
+      | inl d ↦ absurd (clash o q a (e ∙ sym d))
+      | inr i ↦ ap₂ (λ y z. y ∷ z ∷ []) e (one_of q t i)
+    ]
+    | inr i ↦ elim (f q (inr (inl refl))) [
+      | inl d ↦ absurd (let m : least_node o ≡ least_node t = ap least_node (one_of o t i) in let n : least_node q ≡ least_node r = ap least_node d in omega (arith, a, b))
+      | inr j ↦ absurd (clash o q a (one_of o t i ∙ sym (one_of q t j)))
+    ]
+  ]
+  same_lists (o ∷ q ∷ []) (r ∷ t ∷ z ∷ more) a b f g = absurd b
+
+pub after_is_unique : AfterIsUnique
+after_is_unique net real s entry ps others more ground st pieces h k =
+    let x = pivot net real s ps entry (given net real s ps entry others ground st pieces h) others h in
+    let y = pivot net real s ps entry (given net real s ps entry more ground st pieces k) more k in
+    let theirs : ArePiecesAfter net ps x.0 more = subst (λ z. ArePiecesAfter net ps z more) (pivot_is_unique net real s entry y.0 x.0 ground st y.1 x.1) y.2 in
+    same_lists net x.0 ps others more h.in_order k.in_order (member net x.0 ps others more x.2 theirs) (member net x.0 ps more others theirs x.2)

@@ -73,16 +73,17 @@ pub record HasRealArcs (net : Network) (real : ℕ) : Type 0 where
   pub sound : HasSoundArcs net
   pub few : real ≤ length net.arcs
 
--- pieces of what these values say that share no node
+-- pieces of what these values say, that share no node
 pub record ArePiecesOf (net : Network) (s : Values) (pieces : List PieceLists) : Type 0 where
   pub each : (p : PieceLists) → IsIn p pieces → IsPieceOf net s p
   pub apart : AreApart pieces
 
--- a direction of a state is one of the pieces that hold the ends of its arc, and 0 off them
+-- a direction of these pieces, and 0 on every other arc
 pub record IsLocal (net : Network) (pieces : List PieceLists) (enter : ℕ) (by : Ratio) (d : ℕ → Ratio) : Type 0 where
   pub there : IsDirectionOf net pieces enter by d
   pub off : (a : ℕ) → a < length net.arcs → (¬ IsIn a (enter ∷ basics_of pieces)) → d a ≡ zero_ratio
 
+-- the direction of a state is that of the pieces that hold the ends of its arc, and 0 off them
 abbrev pub DirectionIsLocal : Type 0
 DirectionIsLocal = (net : Network) (s : State) (pieces : List PieceLists) (enter : ℕ) (by : Ratio) (d : ℕ → Ratio) → HasSoundArcs net → IsState net s
     → ArePiecesOf net (values_of s) pieces → MayEnter net pieces enter → IsDirectionIn net (values_of s) enter by d → IsLocal net pieces enter by d
@@ -141,7 +142,7 @@ AreNeededFor (p ∷ []) ends = HoldEnds (p ∷ []) ends
 AreNeededFor (p ∷ q ∷ []) ends = LinksBoth (nodes_in p) (nodes_in q) ends
 AreNeededFor (p ∷ q ∷ r ∷ rest) ends = ⊥
 
--- each arc needs one or two pieces of what is marked, and they hold its ends
+-- one or two pieces of what these values say that are needed for these ends, and hold them
 pub record Needed (net : Network) (s : Values) (ends : Ends) : Type 0 where
   pub pieces : List PieceLists
   pub pieces_of : ArePiecesOf net s pieces
@@ -149,6 +150,7 @@ pub record Needed (net : Network) (s : Values) (ends : Ends) : Type 0 where
   pub needed : AreNeededFor pieces ends
   pub hold : HoldEnds pieces ends
 
+-- each arc has such pieces
 abbrev pub PiecesHold : Type 0
 PiecesHold = (net : Network) (s : Values) (a : ℕ) → HasSoundArcs net → a < length net.arcs → Needed net s (ends_at net.arcs a)
 
@@ -163,6 +165,11 @@ abbrev pub PivotIsUnique : Type 0
 PivotIsUnique = (net : Network) (real : ℕ) (s : State) (entry : Entry) (x y : State) → HasRealArcs net real → IsState net s
     → IsPivot net real s entry x → IsPivot net real s entry y → x ≡ y
 
+-- and so do pieces of a state and the entry the pieces after
+abbrev pub AfterIsUnique : Type 0
+AfterIsUnique = (net : Network) (real : ℕ) (s : State) (entry : Entry) (pieces others same : List PieceLists) → HasRealArcs net real → IsState net s
+    → ArePiecesOf net (values_of s) pieces → IsAfter net real pieces entry others → IsAfter net real pieces entry same → others ≡ same
+
 -- ---- the exchange of pieces, with no state at hand
 
 -- the basic arcs of the pieces, after this arc came in and one of them went out
@@ -170,7 +177,7 @@ pub record AreBasicAfter (pieces : List PieceLists) (enter leave : ℕ) (now : L
   pub once : AreDistinct now
   pub are : (a : ℕ) → IsIn a now ↔ (IsIn a (enter ∷ basics_of pieces) × (a ≢ leave))
 
--- where the direction moves the arc that leaves, each part with a node of the pieces is a quasi-tree
+-- where the direction moves the leaving arc, each part of these arcs with a node of the pieces is a quasi-tree
 abbrev pub TreesAfter : Type 0
 TreesAfter = (net : Network) (pieces : List PieceLists) (enter leave : ℕ) (by : Ratio) (d : ℕ → Ratio) (now nodes numbers : List ℕ) (v : ℕ)
     → HasSoundArcs net → AreInNet net pieces → MayEnter net pieces enter → IsDirectionOf net pieces enter by d
@@ -233,6 +240,7 @@ by_dear = record { marks = Lower ∷ Basic ∷ []; flows = zero_ratio ∷ one_ra
 abbrev pub by_cheap : State
 by_cheap = record { marks = Basic ∷ Lower ∷ []; flows = one_ratio ∷ zero_ratio ∷ []; potentials = zero_ratio ∷ [] }
 
+-- these are states, and a pivot between them
 pub record HasPivot : Type 0 where
   pub ground : HasRealArcs two_drains 2
   pub state : IsState two_drains by_dear

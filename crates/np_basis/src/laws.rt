@@ -1,7 +1,7 @@
 //! The laws of states, of their pieces and of the rows of a piece, as the clauses of functions that do nothing.
 
 ghost use Rattle.np_basis.specs.Laws.{FullIsSound, FullNetIsSound, StartIsArtificial, StartIsState, StartIsSingles, SingleIsPart, StartPieceHasShape, StartPieceIsPiece, PieceExists, PieceIsUnique, PiecesAreSound, PotentialsExist, PotentialsAreUnique, WeightsExist, PriceIsReduced, LinksAreNoLoops, ExtraExists, ExtraIsUnique, PotentialsDivisor, DirectionsDivisor, StateExample, RoundExample};
-ghost use Rattle.np_basis.specs.PivotLaws.{DirectionExists, DirectionIsUnique, WholeDirectionExists, WholeDirectionIsUnique, DirectionIsLocal, OthersAreKept, PiecesHold, AtMostTwo, AfterIsExactly, PivotReplaces, PivotIsUnique, TreesAfter, PartAfterExists, TwoRoots, NoRayAtNonnegativeCosts, NoRayInStageOne, HasPivot};
+ghost use Rattle.np_basis.specs.PivotLaws.{DirectionExists, DirectionIsUnique, WholeDirectionExists, WholeDirectionIsUnique, DirectionIsLocal, OthersAreKept, PiecesHold, AtMostTwo, AfterIsExactly, PivotReplaces, PivotIsUnique, AfterIsUnique, TreesAfter, PartAfterExists, TwoRoots, NoRayAtNonnegativeCosts, NoRayInStageOne, HasPivot};
 
 /// A full network is valid in each phase: with sound real arcs and an artificial arc at each node, all its arcs are sound. So they are in
 /// every [`FullNet`](np_model::FullNet), by its type.
@@ -72,8 +72,8 @@ pub fn directions()
 
 /// A pivot touches no other pieces than those that hold the ends of its entering arc: every other piece stays one, with its potentials,
 /// flows and marks. Each arc needs one or two pieces, and a pivot on them gives one or two in order. Pieces become others by a pivot exactly
-/// where the state whose pieces they are does; the state after is the one before with the new pieces in place of the old ones, and it is the
-/// only one by this entry.
+/// where the state whose pieces they are does; the state after is the one before with the new pieces in place of the old ones. State and
+/// entry determine the state after, and pieces of the state the pieces after.
 pub fn pivots()
     ensures kept { OthersAreKept }
     ensures needed { PiecesHold }
@@ -81,6 +81,7 @@ pub fn pivots()
     ensures of_pieces { AfterIsExactly }
     ensures replaces { PivotReplaces }
     ensures unique { PivotIsUnique }
+    ensures one_after { AfterIsUnique }
 {}
 
 /// With no state at hand: where an arc enters some pieces and one leaves that its direction moves, each part of what is basic then that has

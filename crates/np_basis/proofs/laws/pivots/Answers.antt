@@ -2,7 +2,7 @@ use Rattle.np_basis.proofs.Few.{pieces_hold, at_most_two}
 use Rattle.np_basis.proofs.FromPieces.{after_is_exactly}
 use Rattle.np_basis.proofs.Pivoting.{others_are_kept}
 use Rattle.np_basis.proofs.ToPieces.{pivot_replaces}
-use Rattle.np_basis.proofs.Unique.{pivot_is_unique}
+use Rattle.np_basis.proofs.Unique.{pivot_is_unique, after_is_unique}
 use Rattle.np_basis.proofs.laws.pivots.Goals as goal
 
 pub returns-clause-kept : goal.returns-clause-kept
@@ -22,3 +22,6 @@ returns-clause-replaces c = pivot_replaces
 
 pub returns-clause-unique : goal.returns-clause-unique
 returns-clause-unique c = pivot_is_unique
+
+pub returns-clause-one_after : goal.returns-clause-one_after
+returns-clause-one_after c = after_is_unique
