@@ -23,3 +23,4 @@ pub mod Few
 pub mod Unique
 pub mod StageOne
 pub mod PivotExample
+pub mod Room

@@ -11,12 +11,13 @@ use Rattle.np_model.specs.declared.log.Entry.{Entry}
 use Rattle.np_model.specs.declared.log.Mark.TheVariants.{Lower, Basic}
 use Rattle.np_model.specs.declared.network.FullNet.{FullNet}
 use Rattle.np_model.specs.declared.phase.Phase.TheVariants.{One}
+use Rattle.np_model.specs.Network.Arcs.{IsFinite}
 use Rattle.np_model.specs.Network.Flows.{Network, at}
-use Rattle.np_model.specs.Basis.Graphs.{ratios, graph_ends, graph_of, ends_at, cost_at}
+use Rattle.np_model.specs.Basis.Graphs.{ratios, graph_ends, graph_of, arc_at, ends_at, cost_at}
 use Rattle.np_model.specs.Basis.Phases.{phase_net, real_arcs}
 use Rattle.np_model.specs.Basis.Pieces.{PieceLists, nodes_in, nodes_of, basics_of, AreApart}
 use Rattle.np_model.specs.Basis.States.{State, Values, values_of, basics, IsPartOf, IsForest, IsPieceOf, IsState}
-use Rattle.np_model.specs.Basis.Moves.{sign, KeepsBounds, IsDirection, IsEligible}
+use Rattle.np_model.specs.Basis.Moves.{sign, KeepsBounds, IsDirection, IsMove, IsEligible}
 use Rattle.np_model.specs.Basis.Pivots.{node_numbers, arc_numbers, IsPivot}
 use Rattle.np_model.specs.Basis.Sound.{values_in, IsInNet, AreSound, AreOneOrTwo, AreInOrder, HoldEnds, IsAfter}
 use Rattle.np_basis.specs.Laws.{HasSoundArcs}
@@ -87,6 +88,29 @@ pub record IsLocal (net : Network) (pieces : List PieceLists) (enter : ℕ) (by 
 abbrev pub DirectionIsLocal : Type 0
 DirectionIsLocal = (net : Network) (s : State) (pieces : List PieceLists) (enter : ℕ) (by : Ratio) (d : ℕ → Ratio) → HasSoundArcs net → IsState net s
     → ArePiecesOf net (values_of s) pieces → MayEnter net pieces enter → IsDirectionIn net (values_of s) enter by d → IsLocal net pieces enter by d
+
+-- ---- moves
+
+-- a move of the pieces: over their nodes, the entering arc and their basic arcs
+abbrev pub IsMoveOf : Network → List PieceLists → Entry → (ℕ → Ratio) → Ratio → Type 0
+IsMoveOf net pieces entry d t =
+    IsMove net (values_in net pieces) (nodes_of pieces) (entry.enter ∷ basics_of pieces) (basics_of pieces) entry d t
+
+-- a bound stands ahead of an arc that moves by d: its lower bound where it falls, and its upper one, if it has one, where it rises
+abbrev pub HasBoundAhead : NetArc → Ratio → Type 0
+HasBoundAhead a d = (d <ᵣ zero_ratio) ⊎ ((zero_ratio <ᵣ d) × IsFinite a.upper)
+
+-- where a bound stands ahead of some arc of a direction, there is a move along it
+abbrev pub MoveExists : Type 0
+MoveExists = (net : Network) (pieces : List PieceLists) (enter : ℕ) (d : ℕ → Ratio) (a : ℕ) → HasSoundArcs net → AreSound net pieces
+    → MayEnter net pieces enter → IsDirectionOf net pieces enter (sign ((values_in net pieces).mark enter)) d
+    → IsIn a (enter ∷ basics_of pieces) → HasBoundAhead (arc_at net.arcs a) (d a)
+    → (entry : Entry) × (entry.enter ≡ enter) × (t : Ratio) × IsMoveOf net pieces entry d t
+
+-- and no other by the same entering arc
+abbrev pub MoveIsUnique : Type 0
+MoveIsUnique = (net : Network) (pieces : List PieceLists) (x y : Entry) (d e : ℕ → Ratio) (t u : Ratio) → HasSoundArcs net → AreInNet net pieces
+    → MayEnter net pieces x.enter → x.enter ≡ y.enter → IsMoveOf net pieces x d t → IsMoveOf net pieces y e u → (x ≡ y) × (t ≡ u)
 
 -- ---- pivots
 
