@@ -24,3 +24,4 @@ pub mod Unique
 pub mod StageOne
 pub mod PivotExample
 pub mod Room
+pub mod RatioTest

@@ -23,10 +23,11 @@ use Rattle.np_model.specs.Basis.Pieces.{PieceLists, nodes_in, basics_in, nodes_o
 use Rattle.np_model.specs.Basis.Sound.{values_in, AreSound, HoldEnds}
 use Rattle.np_model.specs.Basis.States.{price}
 use Rattle.np_model.proofs.FullNets.{real_at, artificial_at}
-use Rattle.np_basis.specs.PivotLaws.{HasRealArcs, AreInNet, MayEnter, IsDirectionOf, ComesToBound, NoRayAtNonnegativeCosts, NoRayInStageOne}
+use Rattle.np_basis.specs.PivotLaws.{HasRealArcs, AreInNet, MayEnter, IsDirectionOf, ComesToBound, NoRayAtNonnegativeCosts, NoRayInStageOne, MoveInStageOne}
 use Rattle.np_basis.proofs.Directions as directions
 use Rattle.np_basis.proofs.Fulls.{length_full, full_net_is_sound}
 use Rattle.np_basis.proofs.Pivoting.{not_gaining}
+use Rattle.np_basis.proofs.RatioTest.{move_exists}
 use Rattle.np_basis.proofs.Reading.{in_flat_of, price_same}
 use Rattle.np_basis.proofs.Sound as said
 use Rattle.np_basis.proofs.Trees.{reduced_is}
@@ -52,24 +53,26 @@ negated_below : negated one_ratio <ᵣ zero_ratio
 unfolding whole negated
 negated_below = is_below_true (negated one_ratio) zero_ratio refl
 
+all : (net : Network) (ps : List PieceLists) → AreSound net ps → AreInNet net ps
+all net ps sound = record { each = λ o i. (sound.each o i).in_net; apart = sound.apart }
+
+-- an eligible arc whose ends the pieces hold may enter
+may : (net : Network) (real : ℕ) (ps : List PieceLists) (enter : ℕ) → HasRealArcs net real → AreSound net ps → HoldEnds ps (ends_at net.arcs enter)
+    → IsEligible net real (values_in net ps) enter → MayEnter net ps enter
+may net real ps enter ground sound into eligible = record {
+  below = omega (arith, eligible.is_open.0, ground.few);
+  ends = into;
+  not_basic = λ i. let r = in_flat_of basics_in ps enter i in not_gaining ((values_in net ps).mark enter) _ eligible.gains (said.mark_basic net ps sound r.0 enter r.1 r.2);
+}
+
 module _ (net : Network) (real : ℕ) (ps : List PieceLists) (enter : ℕ) (d : ℕ → Ratio) (ground : HasRealArcs net real)
     (cheap : (a : ℕ) → a < length net.arcs → zero_ratio ≤ᵣ cost_at net.arcs a) (sound : AreSound net ps) (into : HoldEnds ps (ends_at net.arcs enter))
     (eligible : IsEligible net real (values_in net ps) enter) (h : IsDirectionOf net ps enter (sign ((values_in net ps).mark enter)) d) where
   p : ℕ → Ratio
   p = (values_in net ps).potential
 
-  all : AreInNet net ps
-  all = record { each = λ o i. (sound.each o i).in_net; apart = sound.apart }
-
-  may : MayEnter net ps enter
-  may = record {
-    below = omega (arith, eligible.is_open.0, ground.few);
-    ends = into;
-    not_basic = λ i. let r = in_flat_of basics_in ps enter i in not_gaining ((values_in net ps).mark enter) _ eligible.gains (said.mark_basic net ps sound r.0 enter r.1 r.2);
-  }
-
   entering : directions.Enters net ground.sound (nodes_of ps) (enter ∷ basics_of ps) (basics_of ps) enter
-  entering = directions.of_entering net ground.sound ps enter all may
+  entering = directions.of_entering net ground.sound ps enter (all net ps sound) (may net real ps enter ground sound into eligible)
 
   pull : ℕ → Ratio
   pull a = graph.pull ratios (graph_of (ends_at net.arcs) a) p
@@ -146,7 +149,17 @@ cheap_in_one full a l = elim (cases a (length full.net.arcs)) [
     cases : (x y : ℕ) → (x < y) ⊎ (y ≤ x)
     cases x y = grind arith
 
+full_real : (full : FullNet) → HasRealArcs (phase_net One full) (real_arcs full)
+full_real full = record { sound = full_net_is_sound One full; few = omega (arith, length_full One full.net.arcs full.artificial) }
+
 pub no_ray_in_stage_one : NoRayInStageOne
 no_ray_in_stage_one full ps enter d sound into eligible h =
-    no_ray_at_nonnegative_costs (phase_net One full) (real_arcs full) ps enter d
-    (record { sound = full_net_is_sound One full; few = omega (arith, length_full One full.net.arcs full.artificial) }) (cheap_in_one full) sound into eligible h
+    no_ray_at_nonnegative_costs (phase_net One full) (real_arcs full) ps enter d (full_real full) (cheap_in_one full) sound into eligible h
+
+pub move_in_stage_one : MoveInStageOne
+move_in_stage_one full ps enter sound into eligible =
+    let given = may (phase_net One full) (real_arcs full) ps enter (full_real full) sound into eligible in
+    let d = directions.direction_exists (phase_net One full) ps enter (sign ((values_in (phase_net One full) ps).mark enter)) (full_net_is_sound One full) (all (phase_net One full) ps sound) given in
+    let c = no_ray_in_stage_one full ps enter d.0 sound into eligible d.1 in
+    let m = move_exists (phase_net One full) ps enter d.0 c.arc (full_net_is_sound One full) sound given d.1 c.is_one (inl c.falls) in
+    (m.0, m.1, d.0, m.2, m.3)

@@ -248,6 +248,13 @@ NoRayInStageOne = (full : FullNet) (pieces : List PieceLists) (enter : ℕ) (d :
     → IsDirectionOf (phase_net One full) pieces enter (sign ((values_in (phase_net One full) pieces).mark enter)) d
     → ComesToBound (phase_net One full) (values_in (phase_net One full) pieces) (enter ∷ basics_of pieces) d
 
+-- and each eligible arc has a move
+abbrev pub MoveInStageOne : Type 0
+MoveInStageOne = (full : FullNet) (pieces : List PieceLists) (enter : ℕ) → AreSound (phase_net One full) pieces
+    → HoldEnds pieces (ends_at (phase_net One full).arcs enter)
+    → IsEligible (phase_net One full) (real_arcs full) (values_in (phase_net One full) pieces) enter
+    → (entry : Entry) × (entry.enter ≡ enter) × (d : ℕ → Ratio) × (t : Ratio) × IsMoveOf (phase_net One full) pieces entry d t
+
 -- ---- an example
 
 -- a node of supply 1 with two drains, one that costs nothing and one that costs 1

@@ -1,7 +1,7 @@
 //! The laws of states, of their pieces and of the rows of a piece, as the clauses of functions that do nothing.
 
 ghost use Rattle.np_basis.specs.Laws.{FullIsSound, FullNetIsSound, StartIsArtificial, StartIsState, StartIsSingles, SingleIsPart, StartPieceHasShape, StartPieceIsPiece, PieceExists, PieceIsUnique, PiecesAreSound, PotentialsExist, PotentialsAreUnique, WeightsExist, PriceIsReduced, LinksAreNoLoops, ExtraExists, ExtraIsUnique, PotentialsDivisor, DirectionsDivisor, StateExample, RoundExample};
-ghost use Rattle.np_basis.specs.PivotLaws.{DirectionExists, DirectionIsUnique, WholeDirectionExists, WholeDirectionIsUnique, DirectionIsLocal, OthersAreKept, PiecesHold, AtMostTwo, AfterIsExactly, PivotReplaces, PivotIsUnique, AfterIsUnique, TreesAfter, PartAfterExists, TwoRoots, NoRayAtNonnegativeCosts, NoRayInStageOne, HasPivot};
+ghost use Rattle.np_basis.specs.PivotLaws.{DirectionExists, DirectionIsUnique, WholeDirectionExists, WholeDirectionIsUnique, DirectionIsLocal, MoveExists, MoveIsUnique, OthersAreKept, PiecesHold, AtMostTwo, AfterIsExactly, PivotReplaces, PivotIsUnique, AfterIsUnique, TreesAfter, PartAfterExists, TwoRoots, NoRayAtNonnegativeCosts, NoRayInStageOne, MoveInStageOne, HasPivot};
 
 /// A full network is valid in each phase: with sound real arcs and an artificial arc at each node, all its arcs are sound. So they are in
 /// every [`FullNet`](np_model::FullNet), by its type.
@@ -70,6 +70,14 @@ pub fn directions()
     ensures local { DirectionIsLocal }
 {}
 
+/// Where a bound stands ahead of some arc of a direction, its flows can go a greatest step within their bounds, and an arc leaves: the
+/// entering one where it stops them, else the one with the least number among those that do. The entering arc determines the step, the
+/// leaving arc and its bound.
+pub fn moves()
+    ensures exist { MoveExists }
+    ensures unique { MoveIsUnique }
+{}
+
 /// A pivot touches no other pieces than those that hold the ends of its entering arc: every other piece stays one, with its potentials,
 /// flows and marks. Each arc needs one or two pieces, and a pivot on them gives one or two in order. Pieces become others by a pivot exactly
 /// where the state whose pieces they are does; the state after is the one before with the new pieces in place of the old ones. State and
@@ -93,10 +101,12 @@ pub fn pieces_after()
 {}
 
 /// Where no arc costs less than 0, as in stage one, the direction of an eligible arc comes to a bound: on some arc it falls, and some
-/// step along it goes below the lower bound there. So there is no ray in stage one.
+/// step along it goes below the lower bound there. So there is no ray in stage one,
+/// and each eligible arc has a move.
 pub fn no_ray_in_stage_one()
     ensures costs { NoRayAtNonnegativeCosts }
     ensures stage { NoRayInStageOne }
+    ensures moves { MoveInStageOne }
 {}
 
 /// There are states, and pieces with a cycle: a node alone has a state of stage one, with any supply that fits; and two nodes with two
