@@ -23,12 +23,12 @@ use Rattle.np_basis.proofs.Held.{arc_below}
 use Rattle.np_basis.proofs.Trees.{coefficient_is, total_is}
 
 -- a sum over what a function makes of numbers
-total_map : {A : Type 0} (f : A → Ratio) (g : ℕ → A) (xs : List ℕ) → field.total ratios f (map g xs) ≡ field.total ratios (λ x. f (g x)) xs
+pub total_map : {A : Type 0} (f : A → Ratio) (g : ℕ → A) (xs : List ℕ) → field.total ratios f (map g xs) ≡ field.total ratios (λ x. f (g x)) xs
 total_map f g [] = refl
 total_map f g (x ∷ xs) = ap (λ t. f (g x) +ᵣ t) (total_map f g xs)
 
 -- the arcs beside their flows, by number
-by_number : (arcs : List NetArc) (x : List Ratio) → length x ≡ length arcs → zip arcs x ≡ map (λ a. (arc_at arcs a, at x a)) (range_with_len 0 (length arcs))
+pub by_number : (arcs : List NetArc) (x : List Ratio) → length x ≡ length arcs → zip arcs x ≡ map (λ a. (arc_at arcs a, at x a)) (range_with_len 0 (length arcs))
 by_number arcs x e = fill_by_all (λ a. (arc_at arcs a, at x a)) (zip arcs x) (length arcs) (no_arc, zero_ratio) (omega (arith, length-zip arcs x)) (λ k l. zipped arcs x e k l (no_arc, zero_ratio))
 
 pub balance_of : (net : Network) → HasSoundArcs net → (x : List Ratio) → length x ≡ length net.arcs → (v : ℕ)

@@ -25,3 +25,5 @@ pub mod StageOne
 pub mod PivotExample
 pub mod Room
 pub mod RatioTest
+pub mod Costs
+pub mod Rays

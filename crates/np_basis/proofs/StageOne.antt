@@ -1,22 +1,18 @@
 -- Where no arc costs less than 0, as in stage one, the direction of an eligible arc comes to a bound.
 use Rattle.std.specs.Prelude.{◌≡◌, ◌⊎◌, ℕ, ◌<◌, ◌≤◌, List, [], ◌∷◌, length}
-use Rattle.std.proofs.Common.{refl, sym, ap, ap₂, subst, ◌∙◌, inl, inr, arith}
-use Rattle.gain_graphs.specs.Arcs as graph
+use Rattle.std.proofs.Common.{refl, sym, ap, subst, ◌∙◌, inl, inr, arith}
 use Rattle.gain_graphs.specs.Arcs.{IsIn}
 use Rattle.gain_graphs.specs.Field as field
-use Rattle.gain_graphs.specs.QuasiTrees.{LiesIn}
-use Rattle.gain_graphs.proofs.Sums as graph_sums
-use Rattle.gain_graphs.proofs.Weights as weights
 use Rattle.np_frac.specs.Ratio.{Ratio, zero_ratio, one_ratio, negated, whole, ◌≤ᵣ◌, ◌<ᵣ◌, ◌+ᵣ◌, ◌*ᵣ◌}
 use Rattle.np_frac.proofs.Field.{*ᵣ-one}
-use Rattle.np_frac.proofs.RatioLaws.{+ᵣ-zero, zero-*ᵣ, *ᵣ-zero, split_by, ≤ᵣ_refl, ≤ᵣ_same, <ᵣ_is_≤ᵣ, below_or, clash, enough, +ᵣ_at_most, *ᵣ_at_most, is_below_true}
+use Rattle.np_frac.proofs.RatioLaws.{+ᵣ-zero, *ᵣ-zero, ≤ᵣ_refl, ≤ᵣ_same, <ᵣ_is_≤ᵣ, below_or, clash, enough, +ᵣ_at_most, *ᵣ_at_most, is_below_true}
 use Rattle.np_model.specs.declared.arc.NetArc.{NetArc}
 use Rattle.np_model.specs.declared.log.Mark.{Mark}
 use Rattle.np_model.specs.declared.log.Mark.TheVariants as marked
 use Rattle.np_model.specs.declared.network.FullNet.{FullNet}
 use Rattle.np_model.specs.declared.phase.Phase.TheVariants.{One}
 use Rattle.np_model.specs.Network.Flows.{Network}
-use Rattle.np_model.specs.Basis.Graphs.{ratios, graph_of, arc_at, ends_at, cost_at}
+use Rattle.np_model.specs.Basis.Graphs.{ratios, arc_at, ends_at, cost_at}
 use Rattle.np_model.specs.Basis.Moves.{sign, Gains, IsEligible}
 use Rattle.np_model.specs.Basis.Phases.{phase_net, real_arcs}
 use Rattle.np_model.specs.Basis.Pieces.{PieceLists, nodes_in, basics_in, nodes_of, basics_of}
@@ -24,13 +20,13 @@ use Rattle.np_model.specs.Basis.Sound.{values_in, AreSound, HoldEnds}
 use Rattle.np_model.specs.Basis.States.{price}
 use Rattle.np_model.proofs.FullNets.{real_at, artificial_at}
 use Rattle.np_basis.specs.PivotLaws.{HasRealArcs, AreInNet, MayEnter, IsDirectionOf, ComesToBound, NoRayAtNonnegativeCosts, NoRayInStageOne, MoveInStageOne}
+use Rattle.np_basis.proofs.Costs as costs
 use Rattle.np_basis.proofs.Directions as directions
 use Rattle.np_basis.proofs.Fulls.{length_full, full_net_is_sound}
 use Rattle.np_basis.proofs.Pivoting.{not_gaining}
 use Rattle.np_basis.proofs.RatioTest.{move_exists}
 use Rattle.np_basis.proofs.Reading.{in_flat_of, price_same}
 use Rattle.np_basis.proofs.Sound as said
-use Rattle.np_basis.proofs.Trees.{reduced_is}
 
 -- an arc of the list on which the direction falls, or it falls on none
 search : (d : ℕ → Ratio) (numbers : List ℕ) → ((a : ℕ) × IsIn a numbers × (d a <ᵣ zero_ratio)) ⊎ ((a : ℕ) → IsIn a numbers → zero_ratio ≤ᵣ d a)
@@ -49,7 +45,7 @@ not_negative : (f : ℕ → Ratio) (xs : List ℕ) → ((x : ℕ) → IsIn x xs 
 not_negative f [] h = ≤ᵣ_refl zero_ratio
 not_negative f (x ∷ xs) h = subst (λ t. t ≤ᵣ f x +ᵣ field.total ratios f xs) (+ᵣ-zero zero_ratio) (+ᵣ_at_most (h x (inl refl)) (not_negative f xs (λ y i. h y (inr i))))
 
-negated_below : negated one_ratio <ᵣ zero_ratio
+pub negated_below : negated one_ratio <ᵣ zero_ratio
 unfolding whole negated
 negated_below = is_below_true (negated one_ratio) zero_ratio refl
 
@@ -68,58 +64,37 @@ may net real ps enter ground sound into eligible = record {
 module _ (net : Network) (real : ℕ) (ps : List PieceLists) (enter : ℕ) (d : ℕ → Ratio) (ground : HasRealArcs net real)
     (cheap : (a : ℕ) → a < length net.arcs → zero_ratio ≤ᵣ cost_at net.arcs a) (sound : AreSound net ps) (into : HoldEnds ps (ends_at net.arcs enter))
     (eligible : IsEligible net real (values_in net ps) enter) (h : IsDirectionOf net ps enter (sign ((values_in net ps).mark enter)) d) where
-  p : ℕ → Ratio
-  p = (values_in net ps).potential
-
   entering : directions.Enters net ground.sound (nodes_of ps) (enter ∷ basics_of ps) (basics_of ps) enter
   entering = directions.of_entering net ground.sound ps enter (all net ps sound) (may net real ps enter ground sound into eligible)
 
-  pull : ℕ → Ratio
-  pull a = graph.pull ratios (graph_of (ends_at net.arcs) a) p
+  -- the price of the entering arc
+  worth : Ratio
+  worth = price (values_in net ps).potential (arc_at net.arcs enter)
 
-  reduced : ℕ → Ratio
-  reduced a = graph.reduced_cost ratios (graph_of (ends_at net.arcs) a) (cost_at net.arcs a) p
-
-  -- the potentials give the direction no worth
-  no_worth : field.total ratios (λ a. pull a *ᵣ d a) (enter ∷ basics_of ps) ≡ zero_ratio
-  unfolding pull p
-  no_worth = sym (weights.weigh ratios (graph_of (ends_at net.arcs)) (nodes_of ps) d (enter ∷ basics_of ps) (values_in net ps).potential entering.basis.nodes_once
-      (λ a. elim [ inl e ↦ subst (λ t. LiesIn ratios (nodes_of ps) (graph_of (ends_at net.arcs) t)) (sym e) into | inr i ↦ entering.basis.lies a i ]))
-      ∙ graph_sums.total_zero ratios (λ v. graph.balance ratios (graph_of (ends_at net.arcs)) d (enter ∷ basics_of ps) v *ᵣ (values_in net ps).potential v) (nodes_of ps)
-      (λ v i. ap (λ t. t *ᵣ (values_in net ps).potential v) (sym (directions.balance_is net ground.sound (enter ∷ basics_of ps) d v entering.inside) ∙ h.balanced v i) ∙ zero-*ᵣ ((values_in net ps).potential v))
-
-  reduced_basic : (a : ℕ) → IsIn a (basics_of ps) → reduced a ≡ zero_ratio
-  unfolding reduced p
-  reduced_basic a i =
+  priced : (a : ℕ) → IsIn a (basics_of ps) → price (values_in net ps).potential (arc_at net.arcs a) ≡ zero_ratio
+  priced a i =
       let r = in_flat_of basics_in ps a i in
-      sym (reduced_is (ends_at net.arcs a) (cost_at net.arcs a) (values_in net ps).potential)
-      ∙ price_same (values_in net ps).potential (values_in net (r.0 ∷ [])).potential (nodes_in r.0) (arc_at net.arcs a) (said.inside net ps sound r.0 a r.1 r.2) (said.alone net ps sound r.0 r.1)
+      price_same (values_in net ps).potential (values_in net (r.0 ∷ [])).potential (nodes_in r.0) (arc_at net.arcs a) (said.inside net ps sound r.0 a r.1 r.2) (said.alone net ps sound r.0 r.1)
       ∙ (sound.each r.0 r.1).priced a r.2
 
-  -- so what it costs is its reduced cost
-  cost_is : field.total ratios (λ a. cost_at net.arcs a *ᵣ d a) (enter ∷ basics_of ps) ≡ reduced enter *ᵣ d enter
-  unfolding reduced pull
-  cost_is =
-      graph_sums.total_same ratios (λ a. cost_at net.arcs a *ᵣ d a) (λ a. reduced a *ᵣ d a +ᵣ pull a *ᵣ d a) (enter ∷ basics_of ps) (λ a _. split_by (cost_at net.arcs a) (pull a) (d a))
-      ∙ graph_sums.total_plus ratios (λ a. reduced a *ᵣ d a) (λ a. pull a *ᵣ d a) (enter ∷ basics_of ps)
-      ∙ ap₂ (λ x y. (reduced enter *ᵣ d enter +ᵣ x) +ᵣ y) (graph_sums.total_zero ratios (λ a. reduced a *ᵣ d a) (basics_of ps) (λ a i. ap (λ t. t *ᵣ d a) (reduced_basic a i) ∙ zero-*ᵣ (d a))) no_worth
-      ∙ +ᵣ-zero (reduced enter *ᵣ d enter +ᵣ zero_ratio) ∙ +ᵣ-zero (reduced enter *ᵣ d enter)
-
-  not_cheap : ((a : ℕ) → IsIn a (enter ∷ basics_of ps) → zero_ratio ≤ᵣ d a) → zero_ratio ≤ᵣ reduced enter *ᵣ d enter
-  not_cheap rises = subst (λ t. zero_ratio ≤ᵣ t) cost_is (not_negative (λ a. cost_at net.arcs a *ᵣ d a) (enter ∷ basics_of ps)
+  -- what the direction costs is not below 0, if it falls nowhere
+  not_cheap : ((a : ℕ) → IsIn a (enter ∷ basics_of ps) → zero_ratio ≤ᵣ d a) → zero_ratio ≤ᵣ worth *ᵣ d enter
+  unfolding worth
+  not_cheap rises = subst (λ t. zero_ratio ≤ᵣ t)
+      (costs.cost_of net ground.sound (nodes_of ps) (enter ∷ basics_of ps) (basics_of ps) enter entering into (sign ((values_in net ps).mark enter)) d h (values_in net ps).potential priced)
+      (not_negative (λ a. cost_at net.arcs a *ᵣ d a) (enter ∷ basics_of ps)
       (λ a i. subst (λ t. t ≤ᵣ cost_at net.arcs a *ᵣ d a) (*ᵣ-zero (cost_at net.arcs a)) (*ᵣ_at_most (cheap a (entering.inside a i)) (rises a i))))
 
   none : ((a : ℕ) → IsIn a (enter ∷ basics_of ps) → zero_ratio ≤ᵣ d a) → ⊥
-  unfolding reduced p
+  unfolding worth
   none rises = go ((values_in net ps).mark enter) refl eligible.gains
     where
       -- what the entering arc gains
       go : (m : Mark) → (values_in net ps).mark enter ≡ m → Gains ((values_in net ps).mark enter) (price (values_in net ps).potential (arc_at net.arcs enter)) → ⊥
       go marked.Lower e k = clash (subst (λ t. t <ᵣ zero_ratio) same (subst (λ m. Gains m (price (values_in net ps).potential (arc_at net.arcs enter))) e k)) (not_cheap rises)
         where
-          same : price (values_in net ps).potential (arc_at net.arcs enter) ≡ reduced enter *ᵣ d enter
-          same = reduced_is (ends_at net.arcs enter) (cost_at net.arcs enter) (values_in net ps).potential
-              ∙ sym (ap (λ t. reduced enter *ᵣ t) (h.enters ∙ ap sign e) ∙ *ᵣ-one (reduced enter))
+          same : worth ≡ worth *ᵣ d enter
+          same = sym (ap (λ t. worth *ᵣ t) (h.enters ∙ ap sign e) ∙ *ᵣ-one worth)
       go marked.Upper e k = clash negated_below (subst (λ t. zero_ratio ≤ᵣ t) (h.enters ∙ ap sign e) (rises enter (inl refl)))
       go marked.Basic e k = not_gaining ((values_in net ps).mark enter) _ k e
 

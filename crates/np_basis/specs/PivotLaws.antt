@@ -13,6 +13,7 @@ use Rattle.np_model.specs.declared.network.FullNet.{FullNet}
 use Rattle.np_model.specs.declared.phase.Phase.TheVariants.{One}
 use Rattle.np_model.specs.Network.Arcs.{IsFinite}
 use Rattle.np_model.specs.Network.Flows.{Network, at}
+use Rattle.np_model.specs.Network.Duality.{Ray}
 use Rattle.np_model.specs.Basis.Graphs.{ratios, graph_ends, graph_of, arc_at, ends_at, cost_at}
 use Rattle.np_model.specs.Basis.Phases.{phase_net, real_arcs}
 use Rattle.np_model.specs.Basis.Pieces.{PieceLists, nodes_in, nodes_of, basics_of, AreApart}
@@ -254,6 +255,14 @@ MoveInStageOne = (full : FullNet) (pieces : List PieceLists) (enter : ℕ) → A
     → HoldEnds pieces (ends_at (phase_net One full).arcs enter)
     → IsEligible (phase_net One full) (real_arcs full) (values_in (phase_net One full) pieces) enter
     → (entry : Entry) × (entry.enter ≡ enter) × (d : ℕ → Ratio) × (t : Ratio) × IsMoveOf (phase_net One full) pieces entry d t
+
+-- ---- rays
+
+-- where no bound stands ahead of any arc, the direction of an eligible arc of a state is a ray: the cost falls along it without end
+abbrev pub DirectionIsRay : Type 0
+DirectionIsRay = (net : Network) (real : ℕ) (s : State) (enter : ℕ) (d : ℕ → Ratio) → HasRealArcs net real → IsState net s
+    → IsEligible net real (values_of s) enter → IsDirectionIn net (values_of s) enter (sign ((values_of s).mark enter)) d
+    → ((a : ℕ) → a < length net.arcs → ¬ HasBoundAhead (arc_at net.arcs a) (d a)) → Ray net s.flows (map d (arc_numbers net))
 
 -- ---- an example
 

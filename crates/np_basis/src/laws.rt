@@ -1,7 +1,7 @@
 //! The laws of states, of their pieces and of the rows of a piece, as the clauses of functions that do nothing.
 
 ghost use Rattle.np_basis.specs.Laws.{FullIsSound, FullNetIsSound, StartIsArtificial, StartIsState, StartIsSingles, SingleIsPart, StartPieceHasShape, StartPieceIsPiece, PieceExists, PieceIsUnique, PiecesAreSound, PotentialsExist, PotentialsAreUnique, WeightsExist, PriceIsReduced, LinksAreNoLoops, ExtraExists, ExtraIsUnique, PotentialsDivisor, DirectionsDivisor, StateExample, RoundExample};
-ghost use Rattle.np_basis.specs.PivotLaws.{DirectionExists, DirectionIsUnique, WholeDirectionExists, WholeDirectionIsUnique, DirectionIsLocal, MoveExists, MoveIsUnique, OthersAreKept, PiecesHold, AtMostTwo, AfterIsExactly, PivotReplaces, PivotIsUnique, AfterIsUnique, TreesAfter, PartAfterExists, TwoRoots, NoRayAtNonnegativeCosts, NoRayInStageOne, MoveInStageOne, HasPivot};
+ghost use Rattle.np_basis.specs.PivotLaws.{DirectionExists, DirectionIsUnique, WholeDirectionExists, WholeDirectionIsUnique, DirectionIsLocal, MoveExists, MoveIsUnique, OthersAreKept, PiecesHold, AtMostTwo, AfterIsExactly, PivotReplaces, PivotIsUnique, AfterIsUnique, TreesAfter, PartAfterExists, TwoRoots, NoRayAtNonnegativeCosts, NoRayInStageOne, MoveInStageOne, DirectionIsRay, HasPivot};
 
 /// A full network is valid in each phase: with sound real arcs and an artificial arc at each node, all its arcs are sound. So they are in
 /// every [`FullNet`](np_model::FullNet), by its type.
@@ -107,6 +107,11 @@ pub fn no_ray_in_stage_one()
     ensures costs { NoRayAtNonnegativeCosts }
     ensures stage { NoRayInStageOne }
     ensures moves { MoveInStageOne }
+{}
+
+/// Where no bound stands ahead of any arc, the direction of an eligible arc of a state is a ray: the cost falls along it without end.
+pub fn rays()
+    ensures { DirectionIsRay }
 {}
 
 /// There are states, and pieces with a cycle: a node alone has a state of stage one, with any supply that fits; and two nodes with two
