@@ -1,10 +1,10 @@
 -- A node alone with its artificial arc: a piece of its network, for the tests.
-use Rattle.std.specs.Prelude.{◌≡◌, ◌<◌, ℕ, zero, suc, List, [], ◌∷◌, length, slice_index_or}
+use Rattle.std.specs.Prelude.{◌≡◌, ◌<◌, ℕ, zero, suc, pos, List, [], ◌∷◌, length, slice_index_or}
 use Rattle.std.proofs.Common.{refl, sym, subst, ◌∙◌, inl, inr, arith}
 use Rattle.gain_graphs.specs.Arcs.{IsIn}
 use Rattle.gain_graphs.specs.Arcs as graph
 use Rattle.gain_graphs.specs.QuasiTrees.{LiesIn}
-use Rattle.np_frac.specs.Ratio.{Ratio, zero_ratio}
+use Rattle.np_frac.specs.Ratio.{Ratio, zero_ratio, whole}
 use Rattle.np_model.specs.declared.arc.Ends.{Ends}
 use Rattle.np_model.specs.declared.arc.Ends.TheVariants.{Link, Drain, Feed}
 use Rattle.np_model.specs.declared.log.Mark.{Mark}
@@ -31,7 +31,7 @@ is_artificial e h = record { one_each = refl; at_nodes = each }
     each (suc v) other l = absurd (omega arith)
 
 abbrev pub alone : Ends → PieceLists
-alone e = record { nodes = (0, zero_ratio) ∷ []; basics = (0, e, zero_ratio) ∷ []; marks = [] }
+alone e = record { nodes = (0, whole (pos 5)) ∷ []; basics = (0, e, zero_ratio) ∷ []; marks = [] }
 
 only : (v : ℕ) → IsIn v (0 ∷ []) → v ≡ 0
 only v = elim [ inl e ↦ e | inr i ↦ absurd i ]

@@ -254,12 +254,12 @@ fn potential_off_the_cycle_overflows(rt: HostRuntime) -> Result<(), Fail> {
     Ok(())
 }
 
-// A node alone with its artificial arc.
+// A node alone with its artificial arc, and 5 where its potential is to stand.
 fn one_node(alloc: Global, ends: &Ends) -> Result<Case, Memory>
     requires { IsOneEndAt 0 ends.now }
     ensures { IfOk result (λ made. (phase : ThePhase) → IsInNet (phase_net phase made.full) made.piece.lists) }
 {
-    let zero = Frac::whole(0);
+    let (zero, five) = (Frac::whole(0), Frac::whole(5));
     let supply = Vec::from_slice(alloc, &[zero])?;
     let artificial = Vec::from_slice(alloc, &[*ends])?;
     let full = FullNet {
@@ -271,7 +271,7 @@ fn one_node(alloc: Global, ends: &Ends) -> Result<Case, Memory>
         },
         artificial: EndsList { items: artificial },
     };
-    let nodes = Vec::from_slice(alloc, &[(0, zero)])?;
+    let nodes = Vec::from_slice(alloc, &[(0, five)])?;
     let basics = Vec::from_slice(alloc, &[(0, *ends, zero)])?;
     let piece = Quasi::of_lists(Lists {
         nodes: NodeList { items: nodes },
