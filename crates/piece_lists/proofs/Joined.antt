@@ -95,4 +95,3 @@ new_mark_same marks rest enter leave leave_at fresh e x y i j h = elim j [
 
 pub rest_rises : (marks rest : List (ℕ × Mark)) (enter : ℕ) → IsStrictlyIncreasing (marked marks) → rest ≡ filter (λ x. not (x.0 == enter)) marks → IsStrictlyIncreasing (marked rest)
 rest_rises marks rest enter a e = subst (λ x. IsStrictlyIncreasing (marked x)) (sym e) (filter_rises (λ (m : ℕ × Mark). m.0) (λ x. not (x.0 == enter)) marks a)
-
