@@ -5,3 +5,4 @@ pub mod Splitting
 pub mod Joined
 pub mod Walking
 pub mod Swapped
+pub mod SmallPieces
