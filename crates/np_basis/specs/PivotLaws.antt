@@ -1,8 +1,8 @@
 -- The laws of directions and of pivots.
-use Rattle.std.specs.Prelude.{◌≡◌, ◌≢◌, ◌⊎◌, ◌↔◌, ℕ, ◌<◌, ◌≤◌, List, [], ◌∷◌, map, length}
+use Rattle.std.specs.Prelude.{◌≡◌, ◌≢◌, ◌⊎◌, ◌↔◌, ℕ, ◌<◌, ◌≤◌, Bool, true, false, Option, Some, None, List, [], ◌∷◌, map, length}
 use Rattle.gain_graphs.specs.Arcs.{IsIn, AreDistinct, Touches, AreJoined}
 use Rattle.gain_graphs.specs.QuasiTrees.{IsQuasiTree}
-use Rattle.np_frac.specs.Ratio.{Ratio, zero_ratio, one_ratio, ◌≤ᵣ◌, ◌<ᵣ◌}
+use Rattle.np_frac.specs.Ratio.{Ratio, zero_ratio, one_ratio, negated, ◌≤ᵣ◌, ◌<ᵣ◌}
 use Rattle.np_model.specs.declared.arc.Ends.{Ends}
 use Rattle.np_model.specs.declared.arc.Ends.TheVariants.{Link, Drain, Feed}
 use Rattle.np_model.specs.declared.arc.Upper.TheVariants.{Infinite}
@@ -35,6 +35,16 @@ pub record MayEnter (net : Network) (pieces : List PieceLists) (enter : ℕ) : T
   pub below : enter < length net.arcs
   pub ends : HoldEnds pieces (ends_at net.arcs enter)
   pub not_basic : ¬ IsIn enter (basics_of pieces)
+
+-- the first piece, and a second one where there is one
+abbrev pub lists_of : {A : Type 0} → (A → PieceLists) → PieceLists → Option A → List PieceLists
+lists_of lists first None = first ∷ []
+lists_of lists first (Some second) = first ∷ lists second ∷ []
+
+-- an arc enters upwards with an amount of 1, and downwards with -1
+abbrev pub unit_of : Bool → Ratio
+unit_of true = one_ratio
+unit_of false = negated one_ratio
 
 -- a direction over the nodes of the pieces, on the entering arc and their basic arcs
 abbrev pub IsDirectionOf : Network → List PieceLists → ℕ → Ratio → (ℕ → Ratio) → Type 0
