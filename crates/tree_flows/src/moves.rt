@@ -1,0 +1,37 @@
+//! The arcs whose flows change, in ascending order.
+
+ghost use Rattle.std.specs.Prelude.{◌≡◌, ◌++◌, length, IfOk};
+ghost use Rattle.std.specs.List.Sorted.{IsPermutation, IsNonDecreasingBy};
+ghost use Rattle.tree_flows.specs.Answers.{moving};
+
+use crate::terms::is_nothing;
+use np_frac::{Frac, Memory};
+use np_model::Ends;
+
+// The list with the arcs that have an amount which is not 0.
+pub(crate) fn with_moving(
+    basics: &[(u32, Ends, Frac)],
+    amounts: &[Frac],
+    steps: Vec<(u32, Frac)>,
+) -> Result<Vec<(u32, Frac)>, Memory>
+    requires one_each { length amounts.now ≡ length basics.now }
+    ensures { IfOk result (λ list. list.items ≡ steps.items ++ moving basics.now amounts.now) }
+{
+    let mut steps = steps;
+    for place in 0..basics.len() {
+        if !is_nothing(amounts[place]) {
+            steps.push((basics[place].0, amounts[place]))?;
+        }
+    }
+    Ok(steps)
+}
+
+// The same arcs in ascending number.
+pub(crate) fn in_order(steps: Vec<(u32, Frac)>) -> Vec<(u32, Frac)>
+    ensures same { IsPermutation steps.items result.items }
+    ensures ascend { IsNonDecreasingBy (λ step. step.0) result.items }
+{
+    let mut steps = steps;
+    steps.sort_unstable_by_key(|step| step.0);
+    steps
+}
