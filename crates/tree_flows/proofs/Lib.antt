@@ -1,1 +1,5 @@
--- lemmas
+mod Zeros
+mod Coefficients
+mod Results
+mod Scenes
+mod Adding

@@ -49,7 +49,7 @@ pub(crate) fn turn(ends: Ends, node: u32, sum: Frac) -> Result<Frac, Past>
     requires { HasGain ends }
     ensures { result ≡ turned ends node sum }
 {
-    if is_nothing(sum) {
+    if sum.is_same(Frac::whole(0)) {
         return Ok(sum);
     }
     match ends {
@@ -69,7 +69,9 @@ pub(crate) fn turn(ends: Ends, node: u32, sum: Frac) -> Result<Frac, Past>
 pub(crate) fn with_term(sum: Frac, ends: Ends, node: u32, amount: Frac) -> Result<Frac, Past>
     ensures { result ≡ (term ends node amount ▷ plus_of sum) }
 {
-    if is_nothing(amount) {
+    // That it fits is told by its numerator.
+    let _numerator = sum.num();
+    if amount.is_same(Frac::whole(0)) {
         return Ok(sum);
     }
     let more = term_of(ends, node, amount)?;
