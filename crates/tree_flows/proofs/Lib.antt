@@ -3,3 +3,4 @@ mod Coefficients
 mod Results
 mod Scenes
 mod Adding
+mod Balances

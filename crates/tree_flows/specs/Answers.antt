@@ -82,6 +82,7 @@ piece_of nodes basics marks = record { nodes = nodes; basics = basics; marks = m
 -- the arc enters with its amount of these, which take nothing from any node of the piece
 pub record IsPulled (net : Network) (piece : PieceLists) (e : Entering) (d : ℕ → Ratio) : Type 0 where
   pub in_net : IsInNet net piece
+  pub inside : e.arc < length net.arcs
   pub outside : ¬ IsIn e.arc (basics_in piece)
   pub ends_are : ends_at net.arcs e.arc ≡ e.ends
   pub no_loop : IsNoLoop (graph_ends e.ends)

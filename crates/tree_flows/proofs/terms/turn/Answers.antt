@@ -1,3 +1,4 @@
+use Rattle.tree_flows.proofs.Balances as balances
 use Rattle.tree_flows.proofs.Adding as adding
 use Rattle.tree_flows.proofs.Scenes as scenes
 use Rattle.tree_flows.proofs.Results as results
