@@ -4,3 +4,4 @@ mod Results
 mod Scenes
 mod Adding
 mod Balances
+mod Inward

@@ -1,3 +1,4 @@
+use Rattle.tree_flows.proofs.Inward as inward
 use Rattle.tree_flows.proofs.Balances as balances
 use Rattle.tree_flows.proofs.Adding as adding
 use Rattle.tree_flows.proofs.Scenes as scenes
