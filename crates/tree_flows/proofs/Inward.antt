@@ -47,7 +47,7 @@ onto_split : (back later : List Step) → (done : List Step) × (onto back later
 onto_split [] later = ([], refl)
 onto_split (s ∷ back) later = let r = onto_split back (s ∷ later) in (r.0 ++ s ∷ [], r.1 ∙ sym (append_assoc r.0 (s ∷ []) later))
 
-same_or : (i j : ℕ) → (i ≡ j) ⊎ (i ≢ j)
+pub same_or : (i j : ℕ) → (i ≡ j) ⊎ (i ≢ j)
 same_or i j = grind arith
 
 module _ (s : Scene) where

@@ -5,3 +5,6 @@ mod Scenes
 mod Adding
 mod Balances
 mod Inward
+mod Ending
+mod Following
+mod Mixing

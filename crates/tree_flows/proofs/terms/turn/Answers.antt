@@ -1,3 +1,6 @@
+use Rattle.tree_flows.proofs.Mixing as mixing
+use Rattle.tree_flows.proofs.Following as following
+use Rattle.tree_flows.proofs.Ending as ending
 use Rattle.tree_flows.proofs.Inward as inward
 use Rattle.tree_flows.proofs.Balances as balances
 use Rattle.tree_flows.proofs.Adding as adding
