@@ -121,6 +121,9 @@ module _ (s : Scene) where
   once : AreDistinct all_arcs
   once = (s.pulled.outside, ascends_once (scenes.own s) (ascends (scenes.own s) s.pulled.in_net.shape.basics_ascend))
 
+  pub own_once : AreDistinct (scenes.own s)
+  own_once = once.1
+
   hang_own : (a u v : ℕ) → scenes.Hanging s a u v → IsIn a (scenes.own s)
   hang_own a u v h = subst (λ t. IsIn a t) h.split (in_back a h.before (a ∷ h.after) (inl refl))
 

@@ -8,3 +8,4 @@ mod Inward
 mod Ending
 mod Following
 mod Mixing
+mod Cycling
