@@ -9,3 +9,5 @@ mod Ending
 mod Following
 mod Mixing
 mod Cycling
+mod Walked
+mod Needs

@@ -1,3 +1,4 @@
+use Rattle.tree_flows.proofs.Needs as needs
 use Rattle.tree_flows.proofs.Cycling as cycling
 use Rattle.tree_flows.proofs.Mixing as mixing
 use Rattle.tree_flows.proofs.Following as following
