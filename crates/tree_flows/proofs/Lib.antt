@@ -11,3 +11,5 @@ mod Mixing
 mod Cycling
 mod Walked
 mod Needs
+mod Moving
+mod Calls

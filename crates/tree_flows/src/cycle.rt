@@ -206,6 +206,7 @@ pub(crate) fn are_nothing(cycle: &[Step], sums: &[Frac]) -> bool
 }
 
 // The amounts with those on the arcs of a cycle that is not breakeven.
+#[tactic(auto, using(crate::proofs::Needs::last_within))]
 pub(crate) fn turn_amounts(
     round: &Round<'_>,
     enter: u32,
@@ -217,7 +218,6 @@ pub(crate) fn turn_amounts(
     requires each_node { length round.now.sums.now ≡ length round.now.nodes.now }
     requires within { IsWithin round.now.nodes.now round.now.basics.now first }
     requires within_too { All (λ step. IsWithin round.now.nodes.now round.now.basics.now step) rest.now }
-    requires within_last { IsWithin round.now.nodes.now round.now.basics.now (last_of first rest.now) }
     requires one_each { length amounts.items ≡ length round.now.basics.now }
     requires apart { (last : Ratio) → divisor_of round.now.nodes.now round.now.basics.now first rest.now ≡ Ok last → last.num ≢ pos 0 }
     ensures { let answer = turn_round enter round.now.nodes.now round.now.basics.now round.now.sums.now first rest.now amounts.items in

@@ -1,14 +1,31 @@
 //! The arcs whose flows change, in ascending order.
 
-ghost use Rattle.std.specs.Prelude.{◌≡◌, ◌++◌, length, IfOk};
+ghost use Rattle.std.specs.Prelude.{◌≡◌, ◌++◌, [], ◌∷◌, if◌then◌else◌, length, IfOk};
 ghost use Rattle.std.specs.List.Sorted.{IsPermutation, IsNonDecreasingBy};
+ghost use Rattle.tree_flows.specs.Along.{is_zero};
 ghost use Rattle.tree_flows.specs.Answers.{moving};
 
 use crate::terms::is_nothing;
 use np_frac::{Frac, Memory};
 use np_model::Ends;
 
-// The list with the arcs that have an amount which is not 0.
+// The list with this arc, unless its amount is 0.
+fn with_step(
+    steps: Vec<(u32, Frac)>,
+    arc: u32,
+    amount: Frac,
+) -> Result<Vec<(u32, Frac)>, Memory>
+    ensures { IfOk result (λ list. list.items ≡ steps.items ++ (if is_zero amount then [] else (arc, amount) ∷ [])) }
+{
+    if is_nothing(amount) {
+        return Ok(steps);
+    }
+    let mut steps = steps;
+    steps.push((arc, amount))?;
+    Ok(steps)
+}
+
+// The list with those of these arcs whose amount is not 0.
 pub(crate) fn with_moving(
     basics: &[(u32, Ends, Frac)],
     amounts: &[Frac],
@@ -19,9 +36,7 @@ pub(crate) fn with_moving(
 {
     let mut steps = steps;
     for place in 0..basics.len() {
-        if !is_nothing(amounts[place]) {
-            steps.push((basics[place].0, amounts[place]))?;
-        }
+        steps = with_step(steps, basics[place].0, amounts[place])?;
     }
     Ok(steps)
 }

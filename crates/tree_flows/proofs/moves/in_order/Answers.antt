@@ -1,5 +1,5 @@
-use Rattle.std.proofs.Common.{ℕ}
-use Rattle.std.proofs.lemmas.List.Sorted.{IsNonDecreasingBy-from_sort_by_key, answers_always}
+use Rattle.std.proofs.Common.{ℕ, rules}
+use Rattle.std.proofs.lemmas.List.Sorted.{IsNonDecreasingBy-from_sort_by_key}
 use Rattle.np_frac.specs.Ratio.{Ratio}
 use Rattle.tree_flows.proofs.moves.in_order.Goals as goal
 
