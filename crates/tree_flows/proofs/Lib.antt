@@ -13,3 +13,4 @@ mod Walked
 mod Needs
 mod Moving
 mod Calls
+mod Pulling

@@ -1,8 +1,10 @@
 -- The arcs whose flows change.
-use Rattle.std.specs.Prelude.{◌≡◌, ◌<◌, ◌+◌, ℕ, zero, suc, Bool, true, false, List, [], ◌∷◌, ◌++◌, length, drop, slice_index_or, if◌then◌else◌}
-use Rattle.std.proofs.Common.{refl, sym, ap, subst, ◌∙◌, arith, append_assoc}
+use Rattle.std.specs.Prelude.{◌≡◌, ◌<◌, ◌≤◌, ◌⊎◌, ◌+◌, ℕ, zero, suc, Bool, true, false, List, [], ◌∷◌, ◌++◌, length, drop, slice_index_or, if◌then◌else◌}
+use Rattle.std.proofs.Common.{refl, sym, ap, subst, ◌∙◌, inl, inr, arith, append_assoc}
 use Rattle.np_frac.specs.Ratio.{Ratio}
+use Rattle.np_frac.specs.Fits.{Fits}
 use Rattle.np_model.specs.declared.arc.Ends.{Ends}
+use Rattle.tree_search.proofs.Searches.{default}
 use Rattle.tree_flows.specs.Along.{is_zero}
 use Rattle.tree_flows.specs.Answers.{moving}
 
@@ -35,3 +37,14 @@ moving_more basics amounts place b y before after all l long e f =
         (subst (λ n. moving (drop place basics) (drop place amounts)
         ≡ (if is_zero (slice_index_or amounts place y) then [] else ((slice_index_or basics place b).0, slice_index_or amounts place y) ∷ []) ++ moving (drop n basics) (drop n amounts)) e
         (step basics amounts place b y (omega arith) (omega (arith, long))))
+
+-- one amount more fits
+pub fit_more : (amounts : List Ratio) (place : ℕ) (y : Ratio) → y ≡ slice_index_or amounts place y → Fits y → ((i : ℕ) (d : Ratio) → i < place → Fits (slice_index_or amounts i d))
+    → (i : ℕ) (d : Ratio) → i < place + 1 → place < length amounts → Fits (slice_index_or amounts i d)
+fit_more amounts place y is f h i d l within = elim (cases i place) [
+  | inl m ↦ h i d m
+  | inr m ↦ (let e : i ≡ place = omega (arith, l, m) in subst (λ n. Fits (slice_index_or amounts n d)) (sym e) (subst Fits (is ∙ default amounts place y d within) f))
+]
+  where
+    cases : (i j : ℕ) → (i < j) ⊎ (j ≤ i)
+    cases i j = grind arith

@@ -123,6 +123,7 @@ pub record AreMoving (numbers : List ℕ) (d : ℕ → Ratio) (steps : List (ℕ
 pub record AreStepsOn (net : Network) (pieces : List PieceLists) (enter : ℕ) (d : ℕ → Ratio) (steps : List (ℕ × Ratio)) : Type 0 where
   pub moving_are : AreMoving (enter ∷ basics_of pieces) d steps
   pub rows_fit : (p : PieceLists) → IsIn p pieces → DirectionFits (ends_at net.arcs) d (basics_in p) enter
+  pub fit : (s : ℕ × Ratio) → IsIn s steps → Fits s.1
 
 abbrev pub IsRefusedOn : Network → List PieceLists → ℕ → (ℕ → Ratio) → DirRefusal → Type 0
 IsRefusedOn net pieces enter d (refusal.Past overflow) = (overflow.place ≡ Arc enter)

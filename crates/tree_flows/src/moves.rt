@@ -1,7 +1,9 @@
 //! The arcs whose flows change, in ascending order.
 
 ghost use Rattle.std.specs.Prelude.{◌≡◌, ◌++◌, [], ◌∷◌, if◌then◌else◌, length, IfOk};
+ghost use Rattle.std.specs.List.{All};
 ghost use Rattle.std.specs.List.Sorted.{IsPermutation, IsNonDecreasingBy};
+ghost use Rattle.np_frac.specs.Fits.{Fits};
 ghost use Rattle.tree_flows.specs.Along.{is_zero};
 ghost use Rattle.tree_flows.specs.Answers.{moving};
 
@@ -15,8 +17,11 @@ fn with_step(
     arc: u32,
     amount: Frac,
 ) -> Result<Vec<(u32, Frac)>, Memory>
-    ensures { IfOk result (λ list. list.items ≡ steps.items ++ (if is_zero amount then [] else (arc, amount) ∷ [])) }
+    ensures more { IfOk result (λ list. list.items ≡ steps.items ++ (if is_zero amount then [] else (arc, amount) ∷ [])) }
+    ensures fit { Fits amount }
 {
+    // That it fits is told by its numerator.
+    let _numerator = amount.num();
     if is_nothing(amount) {
         return Ok(steps);
     }
@@ -32,7 +37,8 @@ pub(crate) fn with_moving(
     steps: Vec<(u32, Frac)>,
 ) -> Result<Vec<(u32, Frac)>, Memory>
     requires one_each { length amounts.now ≡ length basics.now }
-    ensures { IfOk result (λ list. list.items ≡ steps.items ++ moving basics.now amounts.now) }
+    ensures more { IfOk result (λ list. list.items ≡ steps.items ++ moving basics.now amounts.now) }
+    ensures fit { IfOk result (λ _. All Fits amounts.now) }
 {
     let mut steps = steps;
     for place in 0..basics.len() {

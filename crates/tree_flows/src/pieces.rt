@@ -1,6 +1,7 @@
 //! The moving arcs of one piece, or of two.
 
 ghost use Rattle.std.specs.Prelude.{◌≡◌, ◌≢◌, ◌<◌, ◌^◌, [], ◌∷◌, ℕ, List, length, Ok, Err, MatchResult, IfOk};
+ghost use Rattle.np_frac.specs.Fits.{Fits};
 ghost use Rattle.np_frac.specs.Ratio.{Ratio, zero_ratio};
 ghost use Rattle.np_model.specs.declared.log.Mark.{Mark as TheMark};
 ghost use Rattle.np_model.specs.Basis.Sound.{IsInNet};
@@ -56,8 +57,11 @@ fn piece_amounts(
 
 // The entering arc alone, with room for so many arcs more.
 fn begun(alloc: Global, entering: &Entering, more: usize) -> Result<Vec<(u32, Frac)>, Memory>
-    ensures { IfOk result (λ list. list.items ≡ (entering.now.arc, entering.now.amount) ∷ []) }
+    ensures list { IfOk result (λ list. list.items ≡ (entering.now.arc, entering.now.amount) ∷ []) }
+    ensures fits { Fits entering.now.amount }
 {
+    // That it fits is told by its numerator.
+    let _numerator = entering.amount.num();
     let mut list = Vec::with_capacity(alloc, more)?;
     list.push((entering.arc, entering.amount))?;
     Ok(list)
