@@ -14,3 +14,4 @@ mod Needs
 mod Moving
 mod Calls
 mod Pulling
+mod Listing
