@@ -12,7 +12,7 @@ use Rattle.np_model.specs.declared.rows.Overflow.{Overflow}
 use Rattle.np_model.specs.Network.Flows.{at}
 use Rattle.np_model.specs.Basis.Graphs.{ends_at}
 use Rattle.np_model.specs.Basis.Pieces.{nodes_in, basics_in}
-use Rattle.np_model.specs.Rows.Directions.{FitsRows}
+use Rattle.np_model.specs.Rows.Directions.{FitsRows, Gives}
 use Rattle.np_model.specs.Rows.Extra.{Extra, Round, IsExtra}
 use Rattle.np_basis.proofs.Extras.{extra_is_unique}
 use Rattle.tree_search.specs.declared.piece.Step.{Step}
@@ -27,6 +27,7 @@ use Rattle.tree_flows.proofs.Scenes.{Scene}
 use Rattle.tree_flows.proofs.Inward as inward
 use Rattle.tree_flows.proofs.Ending as ending
 use Rattle.tree_flows.proofs.Cycling as cycling
+use Rattle.tree_flows.proofs.Apart.{not_both}
 
 
 beyond : (xs : List Ratio) (a : ℕ) → length xs ≤ a → at xs a ≡ zero_ratio
@@ -84,5 +85,6 @@ module _ (s : Scene) where
     one_each = h.0.long;
     are = h.0.are;
     rows_fit = λ y i. subst (λ x. FitsRows (ends_at s.net.arcs) s.d (basics_in s.piece) x s.e.arc) (extra_is_unique s.net s.piece (scenes.x s) y s.pulled.in_net (scenes.is_extra s) i) h.1;
+    none_given = λ row past g. not_both s h.1 row past (subst (λ x. Gives (ends_at s.net.arcs) s.d (basics_in s.piece) x s.e.arc row past) (extra_is_unique s.net s.piece g.0 (scenes.x s) s.pulled.in_net g.1 (scenes.is_extra s)) g.2);
   }
   answered (Err o) h = (h.0, (scenes.x s, scenes.is_extra s, h.1))

@@ -95,11 +95,12 @@ pub record ArePulled (net : Network) (pieces : List PieceLists) (e : Entering) (
   pub once : AreDistinct (basics_of pieces)
   pub moves : e.amount ≢ zero_ratio
 
--- these are the amounts on the basic arcs, and no operation of the rows overflows
+-- these are the amounts on the basic arcs, no operation of the rows overflows, and so the rows give none
 pub record AreAmounts (net : Network) (piece : PieceLists) (e : Entering) (d : ℕ → Ratio) (amounts : List Ratio) : Type 0 where
   pub one_each : length amounts ≡ length piece.basics
   pub are : (a : ℕ) → a < length piece.basics → at amounts a ≡ d (number_by_place piece.basics a)
   pub rows_fit : DirectionFits (ends_at net.arcs) d (basics_in piece) e.arc
+  pub none_given : (row : Row) (past : Past) → DirectionGives (ends_at net.arcs) d (basics_in piece) e.arc row past → ⊥
 
 -- the rows give the operation
 abbrev pub IsOverflow : Network → PieceLists → Entering → (ℕ → Ratio) → Overflow → Type 0
@@ -123,6 +124,7 @@ pub record AreMoving (numbers : List ℕ) (d : ℕ → Ratio) (steps : List (ℕ
 pub record AreStepsOn (net : Network) (pieces : List PieceLists) (enter : ℕ) (d : ℕ → Ratio) (steps : List (ℕ × Ratio)) : Type 0 where
   pub moving_are : AreMoving (enter ∷ basics_of pieces) d steps
   pub rows_fit : (p : PieceLists) → IsIn p pieces → DirectionFits (ends_at net.arcs) d (basics_in p) enter
+  pub none_given : (p : PieceLists) → IsIn p pieces → (row : Row) (past : Past) → DirectionGives (ends_at net.arcs) d (basics_in p) enter row past → ⊥
   pub fit : (s : ℕ × Ratio) → IsIn s steps → Fits s.1
 
 abbrev pub IsRefusedOn : Network → List PieceLists → ℕ → (ℕ → Ratio) → DirRefusal → Type 0
