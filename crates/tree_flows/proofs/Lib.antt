@@ -16,3 +16,4 @@ mod Moving
 mod Calls
 mod Pulling
 mod Listing
+mod Together
