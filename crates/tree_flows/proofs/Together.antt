@@ -119,3 +119,7 @@ module _ (net : Network) (e : Entering) (d : ℕ → Ratio) where
 pub same_piece : (nodes items : List (ℕ × Ratio)) (basics flows : List (ℕ × Ends × Ratio)) (marks : List (ℕ × Mark)) (piece : PieceLists) → nodes ≡ items → basics ≡ flows
     → record { nodes = items; basics = flows; marks = marks } ≡ piece → piece_of nodes basics marks ≡ piece
 same_piece nodes items basics flows marks piece n b h = rw (n, b) h
+
+pub joined : (steps begun list : List (ℕ × Ratio)) (basics own : List (ℕ × Ends × Ratio)) (amounts found : List Ratio) → steps ≡ begun ++ moving basics amounts → begun ≡ list → basics ≡ own → amounts ≡ found
+    → steps ≡ list ++ moving own found
+joined steps begun list basics own amounts found e b o f = e ∙ rw (b, o, f) refl

@@ -153,7 +153,8 @@ fn mix_rest(
     requires within { IsWithin round.now.nodes.now round.now.basics.now first }
     requires within_too { All (λ step. IsWithin round.now.nodes.now round.now.basics.now step) rest.now }
     requires one_each { length amounts.items ≡ length round.now.basics.now }
-    ensures { let answer = mix_after round.now.nodes.now round.now.basics.now round.now.sums.now start first rest.now zero_ratio one_ratio amounts.items in
+    ensures kept { IfOk result (λ found. length found.items ≡ length round.now.basics.now) }
+    ensures made { let answer = mix_after round.now.nodes.now round.now.basics.now round.now.sums.now start first rest.now zero_ratio one_ratio amounts.items in
         MatchResult result (λ found. answer ≡ Ok found.items) (λ past. answer ≡ Err past) }
 {
     let mut step = first;
@@ -183,7 +184,8 @@ fn mix_round(
     requires within { IsWithin round.now.nodes.now round.now.basics.now first }
     requires within_too { All (λ step. IsWithin round.now.nodes.now round.now.basics.now step) rest.now }
     requires one_each { length amounts.items ≡ length round.now.basics.now }
-    ensures { let answer = mix_all round.now.nodes.now round.now.basics.now round.now.sums.now start first rest.now amounts.items in
+    ensures kept { IfOk result (λ found. length found.items ≡ length round.now.basics.now) }
+    ensures made { let answer = mix_all round.now.nodes.now round.now.basics.now round.now.sums.now start first rest.now amounts.items in
         MatchResult result (λ found. answer ≡ Ok found.items) (λ past. answer ≡ Err past) }
 {
     let amount = mix(start, Frac::whole(0), Frac::whole(1))?;
@@ -220,7 +222,8 @@ pub(crate) fn turn_amounts(
     requires within_too { All (λ step. IsWithin round.now.nodes.now round.now.basics.now step) rest.now }
     requires one_each { length amounts.items ≡ length round.now.basics.now }
     requires apart { (last : Ratio) → divisor_of round.now.nodes.now round.now.basics.now first rest.now ≡ Ok last → last.num ≢ pos 0 }
-    ensures { let answer = turn_round enter round.now.nodes.now round.now.basics.now round.now.sums.now first rest.now amounts.items in
+    ensures kept { IfOk result (λ found. length found.items ≡ length round.now.basics.now) }
+    ensures made { let answer = turn_round enter round.now.nodes.now round.now.basics.now round.now.sums.now first rest.now amounts.items in
         MatchResult result (λ found. answer ≡ Ok found.items) (λ overflow. answer ≡ Err overflow) }
 {
     let last = last_step(first, rest);
@@ -251,7 +254,8 @@ fn round_amounts(
     requires is_last { last ≡ last_of first rest.now }
     requires one_each { length amounts.items ≡ length round.now.basics.now }
     requires apart { divisor.num ≢ pos 0 }
-    ensures { let answer = mix_of round.now.nodes.now round.now.basics.now round.now.sums.now divisor first rest.now amounts.items in
+    ensures kept { IfOk result (λ found. length found.items ≡ length round.now.basics.now) }
+    ensures made { let answer = mix_of round.now.nodes.now round.now.basics.now round.now.sums.now divisor first rest.now amounts.items in
         MatchResult result (λ found. answer ≡ Ok found.items) (λ past. answer ≡ Err past) }
 {
     let whole = closing_sum(round, first, rest, last)?;

@@ -35,7 +35,8 @@ fn piece_amounts(
     requires one_each { length amounts.items ≡ length basics.now }
     requires zeros { (a : ℕ) → a < length basics.now → at amounts.items a ≡ zero_ratio }
     requires each_node { length sums.items ≡ length nodes.now }
-    ensures { (net : Network) (marks : List (ℕ × TheMark)) (d : ℕ → Ratio) → HasSoundArcs net → IsPulled net (piece_of nodes.now basics.now marks) entering.now d
+    ensures kept { IfOk result (λ found. length found.items ≡ length basics.now) }
+    ensures answer { (net : Network) (marks : List (ℕ × TheMark)) (d : ℕ → Ratio) → HasSoundArcs net → IsPulled net (piece_of nodes.now basics.now marks) entering.now d
         → MatchResult result (λ found. AreAmounts net (piece_of nodes.now basics.now marks) entering.now d found.items) (IsOverflow net (piece_of nodes.now basics.now marks) entering.now d) }
 {
     let rows = Rows {

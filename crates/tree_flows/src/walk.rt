@@ -25,7 +25,8 @@ fn end_amounts(rows: &Rows<'_>, arc: u32, amounts: Vec<Frac>) -> Result<Vec<Frac
     requires gains { HaveGains rows.now.basics.now }
     requires inside { arc < length rows.now.basics.now }
     requires below { (slice_index_or rows.now.joints.now arc loose).from < length rows.now.nodes.now }
-    ensures { let answer = close_end rows.now.nodes.now rows.now.basics.now rows.now.joints.now rows.now.before rows.now.entering.now arc amounts.items in
+    ensures kept { IfOk result (λ found. length found.items ≡ length rows.now.basics.now) }
+    ensures made { let answer = close_end rows.now.nodes.now rows.now.basics.now rows.now.joints.now rows.now.before rows.now.entering.now arc amounts.items in
         MatchResult result (λ found. answer ≡ Ok found.items) (λ past. answer ≡ Err past) }
 {
     let mut amounts = amounts;
@@ -56,7 +57,8 @@ fn cycle_amounts(
     requires some { 0 < length cycle.now }
     requires within { All (λ step. IsWithin rows.now.nodes.now rows.now.basics.now step) cycle.now }
     requires apart { HasDivisor rows.now.nodes.now rows.now.basics.now cycle.now }
-    ensures { let answer = close_round rows.now.nodes.now rows.now.basics.now rows.now.joints.now rows.now.before rows.now.entering.now cycle.now sums.items amounts.items in
+    ensures kept { IfOk result (λ found. length found.items ≡ length rows.now.basics.now) }
+    ensures made { let answer = close_round rows.now.nodes.now rows.now.basics.now rows.now.joints.now rows.now.before rows.now.entering.now cycle.now sums.items amounts.items in
         MatchResult result (λ found. answer ≡ Ok found.items) (λ overflow. answer ≡ Err overflow) }
 {
     let found = match sums_round(rows, cycle, amounts.as_slice(), sums) {
@@ -88,7 +90,8 @@ fn extra_amounts(
     requires few { length rows.now.basics.now < 2 ^ 32 }
     requires gains { HaveGains rows.now.basics.now }
     requires closes { CanClose rows.now.nodes.now rows.now.basics.now rows.now.joints.now extra.now }
-    ensures { let answer = close_extra rows.now.nodes.now rows.now.basics.now rows.now.joints.now rows.now.before rows.now.entering.now extra.now sums.items amounts.items in
+    ensures kept { IfOk result (λ found. length found.items ≡ length rows.now.basics.now) }
+    ensures made { let answer = close_extra rows.now.nodes.now rows.now.basics.now rows.now.joints.now rows.now.before rows.now.entering.now extra.now sums.items amounts.items in
         MatchResult result (λ found. answer ≡ Ok found.items) (λ overflow. answer ≡ Err overflow) }
 {
     match extra {
@@ -116,7 +119,8 @@ pub(crate) fn amounts_on(
     requires gains { HaveGains rows.now.basics.now }
     requires within { All (λ step. IsWithin rows.now.nodes.now rows.now.basics.now step) steps.now }
     requires closes { CanClose rows.now.nodes.now rows.now.basics.now rows.now.joints.now extra.now }
-    ensures { let answer = walk_in rows.now.nodes.now rows.now.basics.now rows.now.joints.now rows.now.before rows.now.entering.now steps.now extra.now sums.items amounts.items in
+    ensures kept { IfOk result (λ found. length found.items ≡ length rows.now.basics.now) }
+    ensures made { let answer = walk_in rows.now.nodes.now rows.now.basics.now rows.now.joints.now rows.now.before rows.now.entering.now steps.now extra.now sums.items amounts.items in
         MatchResult result (λ found. answer ≡ Ok found.items) (λ overflow. answer ≡ Err overflow) }
 {
     match gather_amounts(rows, steps, amounts) {

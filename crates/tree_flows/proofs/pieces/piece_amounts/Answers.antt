@@ -24,9 +24,9 @@ amounts_on-requires-clause-closes c =
     (needs.closes c.requires.in_net.0 (piece_of c.args.nodes.now c.args.basics.now c.requires.in_net.1) c.requires.in_net.2 c.requires.in_net.3 c.args.layout.now.joints.items c.requires.laid_out.joints
     c.args.layout.now.extra c.requires.laid_out.extra)
 
-pub returns : goal.returns
-returns c = λ net marks d sound pulled.
+pub returns-clause-answer : goal.returns-clause-answer
+returns-clause-answer c = λ net marks d sound pulled.
     carried (λ found. found.items) (AreAmounts net (piece_of c.args.nodes.now c.args.basics.now marks) c.args.entering.now d) (IsOverflow net (piece_of c.args.nodes.now c.args.basics.now marks) c.args.entering.now d)
-    c.amounts_on.result _ c.amounts_on.ensures
+    c.amounts_on.result _ c.amounts_on.ensures.made
     (piece_answer c.args.nodes.now c.args.basics.now c.args.layout.now c.args.entering.now c.args.amounts.items c.args.sums.items c.as_slice.result.now c.as_slice-2.result.now c.requires.laid_out c.requires.one_each c.requires.zeros
     c.requires.each_node c.as_slice.ensures.value c.as_slice-2.ensures.value net marks d sound pulled)
