@@ -17,3 +17,4 @@ mod Calls
 mod Pulling
 mod Listing
 mod Together
+mod Answering
