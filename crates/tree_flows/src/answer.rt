@@ -9,7 +9,7 @@ ghost use Rattle.np_model.specs.Basis.Phases.{phase_net};
 ghost use Rattle.tree_flows.specs.Answers.{pieces_given, unit_of, CanEnter, IsAnswer, GivesPast, IsCause};
 
 use crate::moves::in_order;
-use crate::pieces::{steps_in_order, steps_on_one};
+use crate::pieces::steps_on;
 use crate::refusal::DirRefusal;
 use crate::sums::Entering;
 use np_frac::Frac;
@@ -60,15 +60,14 @@ pub fn direction(
         ends: full.ends(enter),
         amount: unit(up),
     };
-    let found = match second {
-        None => steps_on_one(alloc, first, &entering)?,
-        Some(other) => steps_in_order(alloc, first, other, &entering)?,
-    };
-    Ok(Direction {
-        enter,
-        up,
-        steps: Steps {
-            items: in_order(found),
-        },
-    })
+    match steps_on(alloc, first, second, &entering) {
+        Ok(found) => Ok(Direction {
+            enter,
+            up,
+            steps: Steps {
+                items: in_order(found),
+            },
+        }),
+        Err(refusal) => Err(refusal),
+    }
 }

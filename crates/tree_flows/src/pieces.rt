@@ -1,14 +1,17 @@
 //! The moving arcs of one piece, or of two.
 
 ghost use Rattle.std.specs.Prelude.{◌≡◌, ◌≢◌, ◌<◌, ◌^◌, [], ◌∷◌, ℕ, List, length, Ok, Err, MatchResult, IfOk};
+ghost use Rattle.std.specs.Option.{option_copied};
+ghost use Rattle.gain_graphs.specs.Arcs.{IsIn};
 ghost use Rattle.np_frac.specs.Fits.{Fits};
 ghost use Rattle.np_frac.specs.Ratio.{Ratio, zero_ratio};
 ghost use Rattle.np_model.specs.declared.log.Mark.{Mark as TheMark};
+ghost use Rattle.np_model.specs.Basis.Pieces.{PieceLists as ThePiece};
 ghost use Rattle.np_model.specs.Basis.Sound.{IsInNet};
 ghost use Rattle.np_model.specs.Network.Flows.{Network, at};
 ghost use Rattle.np_basis.specs.Laws.{HasSoundArcs};
 ghost use Rattle.tree_flows.specs.Walks.{IsLaidOut};
-ghost use Rattle.tree_flows.specs.Answers.{piece_of, IsPulled, ArePulled, AreAmounts, IsOverflow, AreStepsOn, IsRefusedOn};
+ghost use Rattle.tree_flows.specs.Answers.{pieces_given, piece_of, IsPulled, ArePulled, AreAmounts, IsOverflow, AreStepsOn, IsRefusedOn};
 
 use crate::layout::{Layout, layout_of, zeros};
 use crate::moves::with_moving;
@@ -69,7 +72,7 @@ fn begun(alloc: Global, entering: &Entering, more: usize) -> Result<Vec<(u32, Fr
 }
 
 // The moving arcs of a piece, the entering one first.
-pub(crate) fn steps_on_one(
+fn steps_on_one(
     alloc: Global,
     piece: &Quasi,
     entering: &Entering,
@@ -140,7 +143,7 @@ fn steps_on_two(
 }
 
 // The moving arcs of two pieces, the one with the lesser least node first.
-pub(crate) fn steps_in_order(
+fn steps_in_order(
     alloc: Global,
     first: &Quasi,
     second: &Quasi,
@@ -155,5 +158,23 @@ pub(crate) fn steps_in_order(
         steps_on_two(alloc, first, second, entering)
     } else {
         steps_on_two(alloc, second, first, entering)
+    }
+}
+
+// The moving arcs of one piece, or of two.
+pub(crate) fn steps_on(
+    alloc: Global,
+    first: &Quasi,
+    second: Option<&Quasi>,
+    entering: &Entering,
+) -> Result<Vec<(u32, Frac)>, DirRefusal>
+    requires in_net { (net : Network) × HasSoundArcs net × ((p : ThePiece) → IsIn p (pieces_given first.now.lists (option_copied second)) → IsInNet net p) }
+    ensures { (net : Network) (d : ℕ → Ratio) → HasSoundArcs net → ArePulled net (pieces_given first.now.lists (option_copied second.entry)) entering.now d
+        → MatchResult result (λ steps. AreStepsOn net (pieces_given first.now.lists (option_copied second.entry)) entering.now.arc d steps.items)
+        (IsRefusedOn net (pieces_given first.now.lists (option_copied second.entry)) entering.now.arc d) }
+{
+    match second {
+        None => steps_on_one(alloc, first, entering),
+        Some(other) => steps_in_order(alloc, first, other, entering),
     }
 }

@@ -1,5 +1,3 @@
-use Rattle.tree_flows.proofs.Listing as listing
-use Rattle.tree_flows.proofs.Pulling as pulling
 use Rattle.std.proofs.Common.{ℕ, ◌<◌, sym, subst, ap, slice_index_or, ◌∙◌, ◌++◌, [], ◌∷◌, if◌then◌else◌, rules}
 use Rattle.np_frac.specs.Ratio.{Ratio}
 use Rattle.tree_flows.specs.Along.{is_zero}
