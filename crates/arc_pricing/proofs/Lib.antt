@@ -1,2 +1,3 @@
-pub mod Tests
+pub mod Eligibility
 pub mod Order
+pub mod SmallNets

@@ -1,7 +1,7 @@
 -- The cyclic order, and lists of candidates as they grow.
-use Rattle.std.specs.Prelude.{◌≡◌, ◌⊎◌, ◌↔◌, ℕ, ◌+◌, ◌-◌, ◌<◌, ◌≤◌, min, zero, suc, Bool, true, false, if◌then◌else◌, IsTrue, List, [], ◌∷◌, ◌++◌, filter, Ok, Err}
+use Rattle.std.specs.Prelude.{◌≡◌, ◌⊎◌, ◌↔◌, ℕ, ◌+◌, ◌-◌, ◌<◌, ◌≤◌, min, zero, suc, Bool, true, false, if◌then◌else◌, List, [], ◌∷◌, ◌++◌, filter, Err}
 use Rattle.std.specs.List.{range_with_len}
-use Rattle.std.proofs.Common.{refl, sym, ap, ◌∙◌, subst, inl, inr, arith}
+use Rattle.std.proofs.Common.{refl, sym, ap, ◌∙◌, inl, inr, arith}
 use Rattle.std.proofs.lemmas.List.{append_assoc}
 use Rattle.std.proofs.lemmas.List.Elements.{filter-append}
 use Rattle.gain_graphs.specs.Arcs.{IsIn}
@@ -12,8 +12,8 @@ use Rattle.np_model.specs.Basis.Moves.{IsEligible}
 use Rattle.arc_pricing.specs.declared.refusal.PriceRefusal.{PriceRefusal}
 use Rattle.arc_pricing.specs.declared.refusal.PriceRefusal.TheVariants as refusal
 use Rattle.arc_pricing.specs.Prices.{is_eligible}
-use Rattle.arc_pricing.proofs.Tests.{eligible_so, eligible_is}
-use Rattle.arc_pricing.specs.Candidates.{cyclic, PriceFits, IsTested, AreCandidates, IsFirstOverflow, IsCause}
+use Rattle.arc_pricing.proofs.Eligibility.{eligible_so, eligible_is}
+use Rattle.arc_pricing.specs.Candidates.{cyclic, PriceFits, IsTested, IsFirstOverflow, IsCause}
 
 -- ---- numbers from a place on
 
@@ -72,11 +72,11 @@ filter_holds p (x ∷ xs) a = by (p x) refl (filter_holds p xs a)
     by : (b : Bool) → p x ≡ b → (IsIn a (filter p xs) ↔ (IsIn a xs × (p a ≡ true))) → IsIn a (if b then x ∷ filter p xs else filter p xs) ↔ (IsIn a (x ∷ xs) × (p a ≡ true))
     by true e held = (
       (λ i. elim i [ inl m ↦ (inl m, ap p m ∙ e) | inr k ↦ (inr (held.0 k).0, (held.0 k).1) ]),
-      (λ r. elim r.0 [ inl m ↦ inl m | inr k ↦ inr (held.1 (k, r.1)) ])
+      (λ r. elim r.0 [ inl m ↦ inl m | inr k ↦ inr (held.1 (k, r.1)) ]),
     )
     by false e held = (
       (λ i. (inr (held.0 i).0, (held.0 i).1)),
-      (λ r. elim r.0 [ inl m ↦ absurd (cc (ap p m, r.1, e)) | inr k ↦ held.1 (k, r.1) ])
+      (λ r. elim r.0 [ inl m ↦ absurd (cc (ap p m, r.1, e)) | inr k ↦ held.1 (k, r.1) ]),
     )
 
 pub cyclic_holds : (from n a : ℕ) → IsIn a (cyclic from n) ↔ (a < n)
@@ -88,7 +88,7 @@ cyclic_holds from n a = (
   (λ below. elim (sides from a) [
     | inl l ↦ in_left a (range_with_len from (n - from)) (range_with_len 0 (min from n)) (range_holds from (n - from) a l (omega arith))
     | inr r ↦ in_right a (range_with_len from (n - from)) (range_with_len 0 (min from n)) (range_holds 0 (min from n) a (omega arith) (omega arith))
-  ])
+  ]),
 )
   where
     sides : (m k : ℕ) → (m ≤ k) ⊎ (k < m)
@@ -110,7 +110,6 @@ cyclic_is from n begin e (inr none) =
 pub joined : (p : ℕ → Bool) (xs ys order none first second : List ℕ) → none ≡ [] → first ≡ none ++ filter p xs → second ≡ first ++ filter p ys → order ≡ xs ++ ys
     → second ≡ filter p order
 joined p xs ys order none first second a b c e = c ∙ rw (b, a, e) (sym (filter-append p xs ys))
-
 
 pub one_more : (p : ℕ → Bool) (start here : ℕ) (xs ys zs : List ℕ) (b : Bool) → start ≤ here → b ≡ p here → ys ≡ xs ++ filter p (range_with_len start (here - start))
     → zs ≡ ys ++ (if b then here ∷ [] else []) → zs ≡ xs ++ filter p (range_with_len start (here + 1 - start))
@@ -161,5 +160,5 @@ has_all net real s from list e a =
     let order = cyclic_holds from real a in
     rw e (
       (λ i. eligible_so net real s a (held.0 i).1),
-      (λ h. held.1 (order.1 h.is_open.0, eligible_is net real s a h))
+      (λ h. held.1 (order.1 h.is_open.0, eligible_is net real s a h)),
     )

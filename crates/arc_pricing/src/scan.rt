@@ -97,8 +97,8 @@ fn scan(
 /// Takes one pass over the arcs, in the thread of the caller: the list that several threads would give is the same. All memory is taken
 /// before the first operation.
 ///
-/// Eligible arcs are those of Ahuja, Magnanti and Orlin, Network Flows, chapters 11 and 15; the cyclic order is the wraparound of their
-/// candidate lists, with a list of all arcs.
+/// Eligible arcs are those of Ahuja, Magnanti and Orlin, Network Flows, chapters 11 and 15, and so is a scan that goes on from a cursor and
+/// wraps around; a list of all of them is this project's own.
 pub fn candidates(
     _rt: &(impl Threads + Sync),
     alloc: Global,

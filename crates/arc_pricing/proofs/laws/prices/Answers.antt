@@ -1,4 +1,4 @@
-use Rattle.arc_pricing.proofs.Tests.{price_exact}
+use Rattle.arc_pricing.proofs.Eligibility.{price_exact}
 use Rattle.arc_pricing.proofs.laws.prices.Goals as goal
 
 pub returns : goal.returns

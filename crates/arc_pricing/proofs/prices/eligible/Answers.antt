@@ -1,5 +1,5 @@
 use Rattle.np_model.specs.Basis.Phases.{phase_net, real_arcs}
-use Rattle.arc_pricing.proofs.Tests.{may}
+use Rattle.arc_pricing.proofs.Eligibility.{may}
 use Rattle.arc_pricing.proofs.prices.eligible.Goals as goal
 
 pub returns-then-is_open : goal.returns-then-is_open

@@ -1,4 +1,4 @@
-use Rattle.std.proofs.Common.{rules, ◌≡◌, Ok, sym, ◌∙◌}
+use Rattle.std.proofs.Common.{◌≡◌, Ok, sym, ◌∙◌}
 use Rattle.np_model.specs.Basis.Graphs.{ends_at, cost_at}
 use Rattle.np_model.specs.Basis.Phases.{phase_net}
 use Rattle.np_model.specs.Network.Arcs.{reduced_cost_of}

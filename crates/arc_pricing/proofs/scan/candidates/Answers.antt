@@ -1,4 +1,4 @@
-use Rattle.std.proofs.Common.{◌≡◌, refl, ◌++◌, ◌-◌, ℕ, min, length, sym, ap, ◌∙◌, subst, arith, filter}
+use Rattle.std.proofs.Common.{◌≡◌, refl, ◌++◌, ◌-◌, ℕ, min, length, ap, ◌∙◌, arith}
 use Rattle.std.specs.List.{range_with_len}
 use Rattle.np_model.specs.Basis.Phases.{phase_net, real_arcs}
 use Rattle.arc_pricing.specs.Prices.{is_eligible}
@@ -14,7 +14,7 @@ returns-in-Ok-clause-all g c =
     let begin = c.min-begin.result in
     let least : begin ≡ min c.args.from n = c.min-begin.ensures ∙ ap (λ (k : ℕ). min c.args.from k) c.requires.one_mark_each in
     let order : cyclic c.args.from n ≡ range_with_len begin (length c.args.marks.now - begin) ++ range_with_len 0 (begin - 0) =
-        cyclic_is c.args.from n begin least c.requires.begins ∙ rw c.requires.one_mark_each refl in
+    cyclic_is c.args.from n begin least c.requires.begins ∙ rw c.requires.one_mark_each refl in
     has_all net n s c.args.from c.scan-2.new.found.items
     (joined (is_eligible net n s) _ _ _ c.in_ok-found.found.items c.scan.new.found.items c.scan-2.new.found.items c.in_ok-found.ensures c.in_ok-scan.ensures.eligible c.in-Ok.ensures.eligible order)
 

@@ -1,11 +1,11 @@
-use Rattle.std.proofs.Common.{◌≡◌, ◌<◌, length, sym, ap, ◌∙◌, rules, arith}
+use Rattle.std.proofs.Common.{◌≡◌, sym, ap, ◌∙◌}
 use Rattle.np_frac.specs.Ratio.{zero_ratio}
 use Rattle.np_frac.proofs.Running.{element_is}
 use Rattle.np_model.specs.Basis.Graphs.{ends_at}
 use Rattle.np_model.specs.Basis.Phases.{phase_net, real_arcs}
 use Rattle.np_model.specs.Network.Arcs.{tail_of, head_of}
 use Rattle.arc_pricing.specs.Candidates.{values_by}
-use Rattle.arc_pricing.proofs.Tests.{tail_below, head_below, ends_below, is_found, is_past}
+use Rattle.arc_pricing.proofs.Eligibility.{tail_below, head_below, ends_below, is_found, is_past}
 use Rattle.arc_pricing.proofs.scan.may_enter.Goals as goal
 
 pub bounds-potentials-tail : goal.bounds-potentials-tail

@@ -1,7 +1,7 @@
-use Rattle.std.proofs.Common.{◌≡◌, sym, ap, ◌∙◌, arith, subst, Err}
+use Rattle.std.proofs.Common.{arith}
 use Rattle.np_model.specs.Basis.Phases.{phase_net, real_arcs}
 use Rattle.arc_pricing.specs.Prices.{is_eligible}
-use Rattle.arc_pricing.specs.Candidates.{values_by, IsTested}
+use Rattle.arc_pricing.specs.Candidates.{values_by}
 use Rattle.arc_pricing.proofs.Order.{one_more, one_fits, here_first}
 use Rattle.arc_pricing.proofs.scan.scan.Goals as goal
 

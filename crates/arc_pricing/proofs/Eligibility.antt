@@ -1,8 +1,6 @@
 -- Prices and the tests of eligible arcs.
-use Rattle.std.specs.Prelude.{◌≡◌, ◌≢◌, ◌⊎◌, ◌↔◌, ℕ, ◌<◌, ◌&&◌, nat_lt, Bool, true, false, IsTrue, List, length, Result, Ok, Err}
-use Rattle.std.specs.List.{All}
-use Rattle.std.specs.Result.{IsOk}
-use Rattle.std.proofs.Common.{refl, sym, ap, ◌∙◌, subst, arith, rules, get_or}
+use Rattle.std.specs.Prelude.{◌≡◌, ◌≢◌, ◌↔◌, ℕ, ◌<◌, nat_lt, Bool, true, false, IsTrue, length, Result, Ok, Err}
+use Rattle.std.proofs.Common.{refl, sym, ◌∙◌, subst, arith}
 use Rattle.std.proofs.lemmas.Bool.{and_parts}
 use Rattle.std.proofs.lemmas.Bool.Decides.{nat_tests}
 use Rattle.np_frac.specs.Ratio.{Ratio, zero_ratio, is_below, ◌<ᵣ◌}
@@ -17,7 +15,7 @@ use Rattle.np_model.specs.declared.phase.Phase.{Phase}
 use Rattle.np_model.specs.declared.phase.Phase.TheVariants.{One, Two}
 use Rattle.np_model.specs.declared.log.Mark.TheVariants.{Lower, Upper, Basic}
 use Rattle.np_model.specs.declared.rows.Overflow.{Overflow}
-use Rattle.np_model.specs.Network.Arcs.{AreNodes, IsUnder, is_under, reduced_cost, reduced_cost_of, tail_of, head_of}
+use Rattle.np_model.specs.Network.Arcs.{AreNodes, is_under, reduced_cost, tail_of, head_of}
 use Rattle.np_model.specs.Network.Flows.{Network}
 use Rattle.np_model.specs.Network.Nets.{IsSoundArc}
 use Rattle.np_model.specs.Basis.Graphs.{arc_at, ends_at, cost_at, no_arc}
@@ -28,7 +26,7 @@ use Rattle.np_model.proofs.FullNets.{real_at}
 use Rattle.np_model.proofs.Pull.{reduced_exactly}
 use Rattle.np_model.proofs.Tested.{under-is, under-so}
 use Rattle.arc_pricing.specs.Prices.{told_at, price_at, price_of, gains, is_open, is_eligible}
-use Rattle.arc_pricing.specs.Candidates.{IsPriced, PriceFits, IsTested}
+use Rattle.arc_pricing.specs.Candidates.{IsTested}
 
 -- ---- row A2
 
