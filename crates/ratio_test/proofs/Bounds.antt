@@ -1,9 +1,9 @@
 -- How far one flow can go until it is at a bound.
-use Rattle.std.specs.Prelude.{◌≡◌, ◌≢◌, ◌⊎◌, Bool, true, false, Option, Some, None, Result, Ok, Err, if◌then◌else◌}
+use Rattle.std.specs.Prelude.{◌≡◌, ◌≢◌, ◌⊎◌, pos, Bool, true, false, Option, Some, None, Result, Ok, Err, if◌then◌else◌}
 use Rattle.std.proofs.Common.{refl, sym, ap, ◌∙◌, subst, arith, inl, inr}
-use Rattle.np_frac.specs.Ratio.{Ratio, zero_ratio, negated, inverse, is_below, ◌≤ᵣ◌, ◌<ᵣ◌, ◌+ᵣ◌, ◌-ᵣ◌, ◌*ᵣ◌}
+use Rattle.np_frac.specs.Ratio.{Ratio, zero_ratio, whole, negated, inverse, is_below, ◌≤ᵣ◌, ◌<ᵣ◌, ◌+ᵣ◌, ◌-ᵣ◌, ◌*ᵣ◌}
 use Rattle.np_frac.specs.Exact.{minus_of, over_of, ◌▷◌}
-use Rattle.np_frac.proofs.Parts.{by1, by2, by3, operations, same}
+use Rattle.np_frac.proofs.Parts.{by1, by2, by3, operations, same, same_parts}
 use Rattle.np_frac.proofs.RatioLaws.{+ᵣ_comm, +ᵣ_assoc, +ᵣ-zero, *ᵣ_assoc, *ᵣ_comm, *ᵣ-zero, zero-*ᵣ, negated-*ᵣ, add_back, ≤ᵣ_same, ≤ᵣ_refl, ≤ᵣ_trans, ≤ᵣ_antisym, below_or, <ᵣ_is_≤ᵣ, clash, +ᵣ_at_most, +ᵣ_at_most_left, *ᵣ_at_most, minus_at_most, minus_not_negative, is_below_true, is_below_false, same_by_tests}
 use Rattle.np_frac.proofs.Field.{+ᵣ-negated, *ᵣ-inverse, *ᵣ-one, quotient_at_most}
 use Rattle.np_frac.proofs.Facts.{quotient_times}
@@ -28,13 +28,17 @@ back = by2 (λ x w. (x +ᵣ w) -ᵣ x ≡ w) (λ x y. simp operations (same _ _ 
 quotient_is : (z d r : Ratio) → d ≢ zero_ratio → z *ᵣ d ≡ r → z ≡ r *ᵣ inverse d
 quotient_is z d r h e = sym (ap (λ (t : Ratio). t *ᵣ inverse d) (sym e) ∙ *ᵣ_assoc z d (inverse d) ∙ ap (λ (t : Ratio). z *ᵣ t) (*ᵣ-inverse d h) ∙ *ᵣ-one z)
 
-apart : {d : Ratio} → zero_ratio <ᵣ d → d ≢ zero_ratio
+pub apart : {d : Ratio} → zero_ratio <ᵣ d → d ≢ zero_ratio
 apart h e = clash h (≤ᵣ_same e)
+
+pub num_apart : (r : Ratio) → r ≢ zero_ratio → r.num ≢ pos 0
+unfolding whole
+num_apart r h e = h (same_parts r zero_ratio (rw e (omega arith)))
 
 grown : {y z d : Ratio} → zero_ratio <ᵣ d → y ≤ᵣ z → y *ᵣ d ≤ᵣ z *ᵣ d
 grown {y} {z} {d} h k = rw (*ᵣ_comm y d, *ᵣ_comm z d) (*ᵣ_at_most (<ᵣ_is_≤ᵣ h) k)
 
-opposite_above : {d : Ratio} → d <ᵣ zero_ratio → zero_ratio <ᵣ negated d
+pub opposite_above : {d : Ratio} → d <ᵣ zero_ratio → zero_ratio <ᵣ negated d
 opposite_above {d} h = elim (below_or zero_ratio (negated d)) [
   | inl k ↦ k
   | inr k ↦ absurd (clash h (rw (+ᵣ-negated d, +ᵣ-zero d) at (+ᵣ_at_most (≤ᵣ_refl d) k)))

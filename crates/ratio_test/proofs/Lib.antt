@@ -1,1 +1,5 @@
 pub mod Bounds
+pub mod Members
+pub mod Held
+pub mod First
+pub mod Whole

@@ -1,1 +1,4 @@
 pub mod Limits
+pub mod Asked
+pub mod Answers
+pub mod Steps

@@ -2,5 +2,10 @@
 #![tactic(auto)]
 
 mod answer;
+mod flow;
+mod limit;
+mod stop;
+mod test;
 
 pub use answer::RatioAnswer;
+pub use test::ratio;
