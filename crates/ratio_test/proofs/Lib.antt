@@ -3,3 +3,4 @@ pub mod Members
 pub mod Held
 pub mod First
 pub mod Whole
+pub mod OneStep
