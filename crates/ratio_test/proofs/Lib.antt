@@ -4,3 +4,4 @@ pub mod Held
 pub mod First
 pub mod Whole
 pub mod OneStep
+pub mod Unique

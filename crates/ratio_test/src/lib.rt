@@ -3,9 +3,10 @@
 
 mod answer;
 mod flow;
+mod follow;
+pub mod laws;
 mod limit;
 mod stop;
-mod test;
 
 pub use answer::RatioAnswer;
-pub use test::ratio;
+pub use follow::ratio;

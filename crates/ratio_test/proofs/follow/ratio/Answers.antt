@@ -16,7 +16,7 @@ use Rattle.ratio_test.proofs.Held.{counted, basic_is_arc}
 use Rattle.ratio_test.proofs.First.{all_found}
 use Rattle.ratio_test.proofs.Whole.{ratio_is}
 use Rattle.ratio_test.proofs.OneStep.{limit_is, amount_is, stands, soonest_more, fit_more, past_here}
-use Rattle.ratio_test.proofs.test.ratio.Goals as goal
+use Rattle.ratio_test.proofs.follow.ratio.Goals as goal
 
 pub flow_of-flow-requires-clause-moves : goal.flow_of-flow-requires-clause-moves
 flow_of-flow-requires-clause-moves g c = λ κs h.

@@ -10,7 +10,7 @@ use Rattle.np_model.specs.Rows.Arcs.{limit_of}
 use Rattle.ratio_test.specs.Asked.{lists_of}
 use Rattle.ratio_test.specs.Limits.{moving}
 use Rattle.ratio_test.specs.Steps.Soonest.{IsSoonestOf}
-use Rattle.ratio_test.proofs.test.ratio.Given as goal
+use Rattle.ratio_test.proofs.follow.ratio.Given as goal
 
 abbrev pub invariant-loop-step : goal.invariant-loop-step
 invariant-loop-step g l = record {
