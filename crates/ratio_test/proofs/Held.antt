@@ -161,9 +161,9 @@ module _ (net : Network) (p q : PieceLists) (w : AreWithin net (p ∷ q ∷ []))
   pub flow_second : (a : ℕ) → IsIn a (basics_in q) → (¬ HasEnd (nodes_in p) (ends_at net.arcs a))
       → beside zero_ratio (flows_of q) a ≡ beside zero_ratio (flat_map flows_of (p ∷ q ∷ [])) a
   flow_second a i n = sym (
-    beside_beyond zero_ratio (flows_of p) (flows_of q ++ []) a (not_in_flows net p one a (λ k. n (basic_has_end net p one a k)))
-    ∙ beside_left zero_ratio zero_ratio (flows_of q) [] a (in_flows net q two a i)
-  )
+      beside_beyond zero_ratio (flows_of p) (flows_of q ++ []) a (not_in_flows net p one a (λ k. n (basic_has_end net p one a k)))
+      ∙ beside_left zero_ratio zero_ratio (flows_of q) [] a (in_flows net q two a i)
+      )
 
   not_of_first : (a : ℕ) → IsOutside net (p ∷ q ∷ []) a → ¬ IsIn a (basics_in p)
   not_of_first a out i = out.not_basic (in_front a (basics_in p) (basics_in q ++ []) i)
@@ -185,13 +185,12 @@ module _ (net : Network) (p q : PieceLists) (w : AreWithin net (p ∷ q ∷ []))
         | inl h ↦ absurd (n (inl h))
         | inr h ↦ elim (in_append _ (nodes_in q) [] h) [ inl k ↦ k | inr k ↦ absurd k ]
       ] in
-      let marked = marked_if net q two a out.is_arc (not_of_second a out) (inl tail) in
-      (
+      let marked = marked_if net q two a out.is_arc (not_of_second a out) (inl tail) in (
         marked,
         sym (
-          beside_beyond Lower (marks_of p) (marks_of q ++ []) a (not_in_marks net p one a (not_of_first a out) (not_marked net p one a n))
-          ∙ beside_left Lower Lower (marks_of q) [] a (in_marks net q two a marked)
-        ),
+            beside_beyond Lower (marks_of p) (marks_of q ++ []) a (not_in_marks net p one a (not_of_first a out) (not_marked net p one a n))
+            ∙ beside_left Lower Lower (marks_of q) [] a (in_marks net q two a marked)
+            ),
       )
 
 -- ---- flows

@@ -5,3 +5,5 @@ pub mod First
 pub mod Whole
 pub mod OneStep
 pub mod Unique
+pub mod OneNode
+pub mod TwoNodes

@@ -10,3 +10,6 @@ mod stop;
 
 pub use answer::RatioAnswer;
 pub use follow::ratio;
+
+#[cfg(test)]
+mod tests;

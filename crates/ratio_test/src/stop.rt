@@ -31,8 +31,7 @@ fn bound_ahead(amount: Frac) -> Mark
 fn is_sooner(enter: u32, best: &Stop, other: &Stop) -> bool
     ensures { result ≡ is_sooner enter best.now other.now }
 {
-    best.step.is_below(other.step)
-        || (!other.step.is_below(best.step) && other.arc != enter)
+    best.step.is_below(other.step) || (!other.step.is_below(best.step) && other.arc != enter)
 }
 
 // The arc that stops the flows first, of those so far and one that follows them.

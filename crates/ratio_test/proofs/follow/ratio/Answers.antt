@@ -46,8 +46,8 @@ returns-in-Err g c =
     let rises : IsStrictlyIncreasing (moving steps) = rw c.as_slice-steps.ensures c.requires.along.ascend in
     let limit = λ (a : ℕ). limit_of (arc_at net.arcs a) ((values_in net pieces).flow a) (beside zero_ratio steps a) in
     let here : limit x.0 ≡ Err c.in-Err.past =
-        limit_is (arc_at net.arcs x.0) c.flow_of-flow.result ((values_in net pieces).flow x.0) x.1 (beside zero_ratio steps x.0) c.limit_of.result (Err c.in-Err.past)
-        c.limit_of.ensures c.flow_of-flow.ensures (amount_is steps i x rises c.loop-step-test.true c.step-item.is) c.in-Err.is in
+    limit_is (arc_at net.arcs x.0) c.flow_of-flow.result ((values_in net pieces).flow x.0) x.1 (beside zero_ratio steps x.0) c.limit_of.result (Err c.in-Err.past)
+    c.limit_of.ensures c.flow_of-flow.ensures (amount_is steps i x rises c.loop-step-test.true c.step-item.is) c.in-Err.is in
     record {
       row = refl;
       place = refl;
@@ -64,8 +64,8 @@ loop-step-preserved g c =
     let rises : IsStrictlyIncreasing (moving steps) = rw c.as_slice-steps.ensures c.requires.along.ascend in
     let limit = λ (a : ℕ). limit_of (arc_at net.arcs a) ((values_in net pieces).flow a) (beside zero_ratio steps a) in
     let here : limit x.0 ≡ Ok c.in-Ok.limit =
-        limit_is (arc_at net.arcs x.0) c.flow_of-flow.result ((values_in net pieces).flow x.0) x.1 (beside zero_ratio steps x.0) c.limit_of.result (Ok c.in-Ok.limit)
-        c.limit_of.ensures c.flow_of-flow.ensures (amount_is steps i x rises c.loop-step-test.true c.step-item.is) c.in-Ok.is in
+    limit_is (arc_at net.arcs x.0) c.flow_of-flow.result ((values_in net pieces).flow x.0) x.1 (beside zero_ratio steps x.0) c.limit_of.result (Ok c.in-Ok.limit)
+    c.limit_of.ensures c.flow_of-flow.ensures (amount_is steps i x rises c.loop-step-test.true c.step-item.is) c.in-Ok.is in
     record {
       soonest = rw c.with_limit-stop.ensures (soonest_more steps i x rises c.loop-step-test.true c.step-item.is limit c.args.direction.now.enter c.loop-step.stop c.in-Ok.limit here c.loop-step.invariant.soonest);
       fit = fit_more steps i x rises c.loop-step-test.true c.step-item.is limit c.in-Ok.limit here c.loop-step.invariant.fit;
@@ -79,11 +79,11 @@ returns g c =
     let limit = λ (t : List (ℕ × Ratio)) (a : ℕ). limit_of (arc_at net.arcs a) ((values_in net pieces).flow a) (beside zero_ratio t a) in
     let all : take c.loop-step.step-index c.as_slice-steps.result.now ≡ c.as_slice-steps.result.now = take_all c.loop-step.step-index c.as_slice-steps.result.now (omega arith) in
     let each : (a : ℕ) → IsIn a (moving direction.steps) → IsOk (limit direction.steps a) =
-        subst (λ (t : List (ℕ × Ratio)). (a : ℕ) → IsIn a (moving t) → IsOk (limit t a)) c.as_slice-steps.ensures
-        (subst (λ (t : List (ℕ × Ratio)). (a : ℕ) → IsIn a (moving t) → IsOk (limit c.as_slice-steps.result.now a)) all c.loop-step.invariant.fit) in
+    subst (λ (t : List (ℕ × Ratio)). (a : ℕ) → IsIn a (moving t) → IsOk (limit t a)) c.as_slice-steps.ensures
+    (subst (λ (t : List (ℕ × Ratio)). (a : ℕ) → IsIn a (moving t) → IsOk (limit c.as_slice-steps.result.now a)) all c.loop-step.invariant.fit) in
     let soonest : IsSoonestOf (limit direction.steps) (beside zero_ratio direction.steps) direction.enter (moving direction.steps) c.loop-step.stop =
-        subst (λ (t : List (ℕ × Ratio)). IsSoonestOf (limit t) (beside zero_ratio t) direction.enter (moving t) c.loop-step.stop) c.as_slice-steps.ensures
-        (subst (λ (t : List (ℕ × Ratio)). IsSoonestOf (limit c.as_slice-steps.result.now) (beside zero_ratio c.as_slice-steps.result.now) direction.enter (moving t) c.loop-step.stop) all c.loop-step.invariant.soonest) in
+    subst (λ (t : List (ℕ × Ratio)). IsSoonestOf (limit t) (beside zero_ratio t) direction.enter (moving t) c.loop-step.stop) c.as_slice-steps.ensures
+    (subst (λ (t : List (ℕ × Ratio)). IsSoonestOf (limit c.as_slice-steps.result.now) (beside zero_ratio c.as_slice-steps.result.now) direction.enter (moving t) c.loop-step.stop) all c.loop-step.invariant.soonest) in
     record {
       ratio = rw c.answer_of.ensures (ratio_is c.args.phase c.args.full.now pieces direction c.loop-step.stop c.requires.within c.requires.outside c.requires.along each soonest);
       fits = all_found (limit direction.steps) (moving direction.steps) each;
