@@ -7,3 +7,5 @@ pub mod OneStep
 pub mod Unique
 pub mod OneNode
 pub mod TwoNodes
+pub mod FirstStart
+pub mod Single

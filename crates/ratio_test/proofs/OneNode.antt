@@ -1,20 +1,24 @@
 -- A node alone with its basic arc, for the tests.
-use Rattle.std.specs.Prelude.{◌≡◌, ◌≢◌, ◌⊎◌, ◌↔◌, ℕ, ◌<◌, List, [], ◌∷◌, length, map}
+use Rattle.std.specs.Prelude.{◌≡◌, ◌≢◌, ◌⊎◌, ◌↔◌, ℕ, ◌<◌, zero, suc, Bool, true, false, List, [], ◌∷◌, length, map}
 use Rattle.std.specs.List.Sorted.{IsStrictlyIncreasing}
-use Rattle.std.proofs.Common.{refl, sym, subst, ◌∙◌, inl, inr, arith}
+use Rattle.std.proofs.Common.{refl, sym, ap, subst, ◌∙◌, inl, inr, arith}
 use Rattle.gain_graphs.specs.Arcs.{IsIn, Touches}
 use Rattle.gain_graphs.specs.Arcs as graph
 use Rattle.gain_graphs.specs.QuasiTrees.{LiesIn}
-use Rattle.np_frac.specs.Ratio.{Ratio, zero_ratio}
+use Rattle.np_frac.specs.Ratio.{Ratio, zero_ratio, one_ratio, ◌+ᵣ◌}
+use Rattle.np_frac.proofs.RatioLaws.{+ᵣ-zero}
+use Rattle.np_frac.proofs.Field.{one-zero, +ᵣ-negated}
 use Rattle.np_model.specs.declared.arc.Ends.{Ends}
 use Rattle.np_model.specs.declared.arc.Ends.TheVariants.{Link, Drain, Feed}
 use Rattle.np_model.specs.declared.log.Mark.{Mark}
-use Rattle.np_model.specs.declared.log.Mark.TheVariants.{Basic}
+use Rattle.np_model.specs.declared.log.Mark.TheVariants.{Lower, Basic}
+use Rattle.np_model.specs.Network.Arcs.{IsWithin}
 use Rattle.np_model.specs.Network.Flows.{Network}
 use Rattle.np_model.specs.Basis.Artificial.{IsOneEndAt}
-use Rattle.np_model.specs.Basis.Graphs.{ratios, graph_ends, ends_at}
+use Rattle.np_model.specs.Basis.Graphs.{ratios, graph_ends, arc_at, ends_at}
 use Rattle.np_model.specs.Basis.Pieces.{PieceLists, HasShape}
 use Rattle.np_model.specs.Basis.Sound.{IsInNet}
+use Rattle.ratio_test.specs.Asked.{AreWithin, unit_of}
 
 abbrev pub alone : ℕ → ℕ → Ends → Ratio → List (ℕ × Mark) → PieceLists
 alone v a e x marks = record { nodes = (v, zero_ratio) ∷ []; basics = (a, e, x) ∷ []; marks = marks }
@@ -70,3 +74,51 @@ module _ (v a : ℕ) (e : Ends) (x : Ratio) (marks : List (ℕ × Mark)) (at : I
       (λ r. (marked k).1 (r.0, (λ j. r.1 (inl j)), r.2)),
     );
   }
+
+-- ---- a list of two marks
+
+pub two_rise : (a b : ℕ) → a < b → IsStrictlyIncreasing (a ∷ b ∷ [])
+two_rise a b h zero l = h
+two_rise a b h (suc k) l = absurd (omega arith)
+
+pub not_basic : (a b : ℕ) (m : Mark) → m ≢ Basic → (k : ℕ × Mark) → IsIn k ((a, m) ∷ (b, Lower) ∷ []) → k.1 ≢ Basic
+not_basic a b m n k (inl e) = λ p. n (sym (cc e) ∙ p)
+not_basic a b m n k (inr (inl e)) = λ p. cc (e, p)
+not_basic a b m n k (inr (inr i)) = absurd i
+
+-- ---- the amount of the entering arc
+
+pub unit_apart : (up : Bool) → unit_of up ≢ zero_ratio
+unit_apart true = one-zero
+unit_apart false = λ e. one-zero (sym (+ᵣ-zero one_ratio) ∙ ap (λ (t : Ratio). one_ratio +ᵣ t) (sym e) ∙ +ᵣ-negated one_ratio)
+
+-- ---- a piece alone
+
+pub alone_within : (net : Network) (v a : ℕ) (e : Ends) (x : Ratio) (marks : List (ℕ × Mark)) → IsInNet net (alone v a e x marks) → IsWithin (arc_at net.arcs a) x
+    → (b : ℕ × Ends × Ratio) → IsIn b ((a, e, x) ∷ []) → IsWithin (arc_at net.arcs b.0) b.2
+alone_within net v a e x marks inside h b (inl m) = subst (λ (t : ℕ × Ends × Ratio). IsWithin (arc_at net.arcs t.0) t.2) (sym m) h
+alone_within net v a e x marks inside h b (inr i) = absurd i
+
+-- one piece alone, and two with different nodes
+pub one_is_within : (net : Network) (v a : ℕ) (e : Ends) (x : Ratio) (marks : List (ℕ × Mark)) → IsInNet net (alone v a e x marks) → IsWithin (arc_at net.arcs a) x
+    → AreWithin net (alone v a e x marks ∷ [])
+one_is_within net v a e x marks inside h = record {
+  in_net = λ p. elim [ inl m ↦ subst (IsInNet net) (sym m) inside | inr i ↦ absurd i ];
+  apart = ((λ i. i), record {});
+  within = λ p b i j. elim i [ inl m ↦ alone_within net v a e x marks inside h b (subst (λ (q : PieceLists). IsIn b q.basics) m j) | inr k ↦ absurd k ];
+}
+
+pub two_are_within : (net : Network) (v a w b : ℕ) (e f : Ends) (x y : Ratio) (marks others : List (ℕ × Mark)) → v ≢ w
+    → IsInNet net (alone v a e x marks) → IsWithin (arc_at net.arcs a) x → IsInNet net (alone w b f y others) → IsWithin (arc_at net.arcs b) y
+    → AreWithin net (alone v a e x marks ∷ alone w b f y others ∷ [])
+two_are_within net v a w b e f x y marks others n one h two k = record {
+  in_net = λ p. elim [
+    | inl m ↦ subst (IsInNet net) (sym m) one
+    | inr i ↦ elim i [ inl m ↦ subst (IsInNet net) (sym m) two | inr j ↦ absurd j ]
+  ];
+  apart = ((λ i. elim i [ inl m ↦ n m | inr j ↦ j ]), ((λ j. j), record {}));
+  within = λ p t i j. elim i [
+    | inl m ↦ alone_within net v a e x marks one h t (subst (λ (q : PieceLists). IsIn t q.basics) m j)
+    | inr r ↦ elim r [ inl m ↦ alone_within net w b f y others two k t (subst (λ (q : PieceLists). IsIn t q.basics) m j) | inr s ↦ absurd s ]
+  ];
+}

@@ -29,7 +29,7 @@ use Rattle.np_model.specs.Basis.Sound.{IsInNet, bound_at}
 use Rattle.np_model.specs.Basis.States.{StandsAt}
 use Rattle.np_model.proofs.Tested.{at-most-so}
 use Rattle.ratio_test.specs.Asked.{AreWithin, IsOutside, IsAlong, unit_of}
-use Rattle.ratio_test.proofs.OneNode.{alone, in_net}
+use Rattle.ratio_test.proofs.OneNode.{alone, in_net, two_rise, not_basic, unit_apart, two_are_within}
 
 abbrev pub from_0 : Ends → UpperBound → NetArc
 from_0 ends u = record { ends = ends; lower = zero_ratio; upper = u; cost = zero_ratio }
@@ -78,15 +78,6 @@ first_piece x m = alone 0 0 (Feed 0) x ((2, m) ∷ (3, Lower) ∷ [])
 abbrev pub second_piece : Ratio → Mark → PieceLists
 second_piece y m = alone 1 1 (Drain 1) y ((2, m) ∷ (4, Lower) ∷ [])
 
-two_rise : (a b : ℕ) → a < b → IsStrictlyIncreasing (a ∷ b ∷ [])
-two_rise a b h zero l = h
-two_rise a b h (suc k) l = absurd (omega arith)
-
-bounds_of : (a b : ℕ) (m : Mark) → m ≢ Basic → (k : ℕ × Mark) → IsIn k ((a, m) ∷ (b, Lower) ∷ []) → k.1 ≢ Basic
-bounds_of a b m n k (inl e) = λ p. n (sym (cc e) ∙ p)
-bounds_of a b m n k (inr (inl e)) = λ p. cc (e, p)
-bounds_of a b m n k (inr (inr i)) = absurd i
-
 module _ (u v w : UpperBound) where
   abbrev Touched : ℕ → ℕ → ℕ → Type 0
   Touched node own k = (k < 5) × (k ≢ own) × Touches (node ∷ []) (graph_ends (ends_at (network u v w).arcs k))
@@ -126,29 +117,15 @@ module _ (u v w : UpperBound) where
   module _ (x y : Ratio) (m : Mark) (n : m ≢ Basic) where
     first_in_net : IsInNet (network u v w) (first_piece x m)
     first_in_net =
-        in_net 0 0 (Feed 0) x ((2, m) ∷ (3, Lower) ∷ []) refl (network u v w) (omega arith) (omega arith) refl (two_rise 2 3 (omega arith)) (bounds_of 2 3 m n) first_marked
+        in_net 0 0 (Feed 0) x ((2, m) ∷ (3, Lower) ∷ []) refl (network u v w) (omega arith) (omega arith) refl (two_rise 2 3 (omega arith)) (not_basic 2 3 m n) first_marked
 
     second_in_net : IsInNet (network u v w) (second_piece y m)
     second_in_net =
-        in_net 1 1 (Drain 1) y ((2, m) ∷ (4, Lower) ∷ []) refl (network u v w) (omega arith) (omega arith) refl (two_rise 2 4 (omega arith)) (bounds_of 2 4 m n) second_marked
-
-    one_within : zero_ratio ≤ᵣ x → IsAtMost x u → (k : ℕ × Ends × Ratio) → IsIn k ((0, Feed 0, x) ∷ []) → IsWithin (arc_at (network u v w).arcs k.0) k.2
-    one_within a b k (inl e) = subst (λ (t : ℕ × Ends × Ratio). IsWithin (arc_at (network u v w).arcs t.0) t.2) (sym e) (a, b)
-    one_within a b k (inr i) = absurd i
-
-    two_within : zero_ratio ≤ᵣ y → IsAtMost y v → (k : ℕ × Ends × Ratio) → IsIn k ((1, Drain 1, y) ∷ []) → IsWithin (arc_at (network u v w).arcs k.0) k.2
-    two_within a b k (inl e) = subst (λ (t : ℕ × Ends × Ratio). IsWithin (arc_at (network u v w).arcs t.0) t.2) (sym e) (a, b)
-    two_within a b k (inr i) = absurd i
+        in_net 1 1 (Drain 1) y ((2, m) ∷ (4, Lower) ∷ []) refl (network u v w) (omega arith) (omega arith) refl (two_rise 2 4 (omega arith)) (not_basic 2 4 m n) second_marked
 
     pub within : zero_ratio ≤ᵣ x → IsAtMost x u → zero_ratio ≤ᵣ y → IsAtMost y v → AreWithin (network u v w) (first_piece x m ∷ second_piece y m ∷ [])
-    within a b c d = record {
-      in_net = λ p. elim [ inl e ↦ subst (IsInNet (network u v w)) (sym e) first_in_net | inr i ↦ elim i [ inl e ↦ subst (IsInNet (network u v w)) (sym e) second_in_net | inr k ↦ absurd k ] ];
-      apart = ((λ i. elim i [ inl e ↦ omega (arith, e) | inr k ↦ k ]), ((λ k. k), record {}));
-      within = λ p k i j. elim i [
-        | inl e ↦ one_within a b k (subst (λ (q : PieceLists). IsIn k q.basics) e j)
-        | inr i ↦ elim i [ inl e ↦ two_within c d k (subst (λ (q : PieceLists). IsIn k q.basics) e j) | inr r ↦ absurd r ]
-      ];
-    }
+    within a b c d =
+        two_are_within (network u v w) 0 0 1 1 (Feed 0) (Drain 1) x y ((2, m) ∷ (3, Lower) ∷ []) ((2, m) ∷ (4, Lower) ∷ []) (λ e. omega (arith, e)) first_in_net (a, b) second_in_net (c, d)
 
     pub outside : (m ≡ Upper → IsFinite w) → IsOutside (network u v w) (first_piece x m ∷ second_piece y m ∷ []) 2
     outside f = record {
@@ -177,10 +154,6 @@ module _ (u v w : UpperBound) where
         three_rise zero l = omega arith
         three_rise (suc zero) l = omega arith
         three_rise (suc (suc k)) l = absurd (omega arith)
-
-        unit_apart : (up : Bool) → unit_of up ≢ zero_ratio
-        unit_apart true = one-zero
-        unit_apart false = λ e. one-zero (sym (+ᵣ-zero one_ratio) ∙ ap (λ (t : Ratio). one_ratio +ᵣ t) (sym e) ∙ +ᵣ-negated one_ratio)
 
         each_apart : (f d : Ratio) (up : Bool) → f ≢ zero_ratio → d ≢ zero_ratio → (step : ℕ × Ratio) → IsIn step ((0, f) ∷ (1, d) ∷ (2, unit_of up) ∷ []) → step.1 ≢ zero_ratio
         each_apart f d up a b step (inl i) = λ p. a (sym (cc i) ∙ p)

@@ -154,6 +154,20 @@ fn is_allowed(arc: &BasicArc) -> bool
         && (arc.amount.is_below(zero) || zero.is_below(arc.amount))
 }
 
+// A node alone with this basic arc, and arcs 0 and 1 at their lower bounds.
+fn node_alone(node: u32, arc: u32, ends: Ends, flow: Frac) -> Alone
+    ensures { result ≡ record { node = node; arc = arc; ends = ends; flow = flow; first = (0, TheMark.Lower); second = (1, TheMark.Lower) } }
+{
+    Alone {
+        node,
+        arc,
+        ends,
+        flow,
+        first: (0, Mark::Lower),
+        second: (1, Mark::Lower),
+    }
+}
+
 // The amount of the entering arc.
 fn unit(up: bool) -> Frac
     ensures { result ≡ unit_of up }
@@ -223,6 +237,104 @@ fn asked(
     let second = second_node(drain.flow, link.mark);
     let direction = entering_link(alloc, feed.amount, drain.amount, link.up)?;
     Ok(ratio(&full, Phase::Two, &first, Some(&second), &direction))
+}
+
+// The start of stage one where node 0 needs 1: the links there (0) with the gain 2 and back (1) stand at 0, and each node stands alone with its
+// artificial arc, a feed (2) that brings 1 and a drain (3) that carries nothing. The link back enters. (Potentials are not asked for.)
+fn start_of_stage_one(alloc: Global) -> Result<Result<RatioAnswer, Overflow>, Memory> {
+    let (one, zero) = (Frac::whole(1), Frac::whole(0));
+    let supply = Vec::from_slice(alloc, &[zero, zero])?;
+    let there = Ends::Link {
+        from: 0,
+        to: 1,
+        gain: Frac::whole(2),
+    };
+    let back = Ends::Link {
+        from: 1,
+        to: 0,
+        gain: one,
+    };
+    let arcs = Vec::from_slice(
+        alloc,
+        &[arc(there, Upper::Infinite), arc(back, Upper::Infinite)],
+    )?;
+    let artificial = Vec::from_slice(alloc, &[Ends::Feed(0), Ends::Drain(1)])?;
+    let full = FullNet {
+        net: Net {
+            supply: Fracs { items: supply },
+            arcs: NetArcs { items: arcs },
+        },
+        artificial: EndsList { items: artificial },
+    };
+    let first = node_alone(0, 2, Ends::Feed(0), one);
+    let second = node_alone(1, 3, Ends::Drain(1), zero);
+    let down = unit(false);
+    let steps = Vec::from_slice(alloc, &[(1, unit(true)), (2, down), (3, down)])?;
+    let direction = Direction {
+        enter: 1,
+        up: true,
+        steps: Steps { items: steps },
+    };
+    Ok(ratio(&full, Phase::One, &first, Some(&second), &direction))
+}
+
+// The feed can go down by 1, and the drain not at all.
+#[test]
+fn first_pivot(rt: HostRuntime) -> Result<(), Fail> {
+    let answer = start_of_stage_one(rt.alloc())?;
+    assert!(rt; answer == leaves(3, Mark::Lower, 0));
+    Ok(())
+}
+
+// A drain (0), a feed (1) and an artificial drain (2) at one node, which is the only piece. The feed enters upwards.
+fn one_piece(
+    alloc: Global,
+    drain: &BasicArc,
+    feed: &Upper,
+) -> Result<Result<RatioAnswer, Overflow>, Memory> {
+    let zero = Frac::whole(0);
+    if !is_allowed(drain) || !feed.is_at_least(zero) {
+        return Err(Memory);
+    }
+    let supply = Vec::from_slice(alloc, &[zero])?;
+    let arcs = Vec::from_slice(
+        alloc,
+        &[arc(Ends::Drain(0), drain.upper), arc(Ends::Feed(0), *feed)],
+    )?;
+    let artificial = Vec::from_slice(alloc, &[Ends::Drain(0)])?;
+    let full = FullNet {
+        net: Net {
+            supply: Fracs { items: supply },
+            arcs: NetArcs { items: arcs },
+        },
+        artificial: EndsList { items: artificial },
+    };
+    let piece = Alone {
+        node: 0,
+        arc: 0,
+        ends: Ends::Drain(0),
+        flow: drain.flow,
+        first: (1, Mark::Lower),
+        second: (2, Mark::Lower),
+    };
+    let steps = Vec::from_slice(alloc, &[(0, drain.amount), (1, unit(true))])?;
+    let direction = Direction {
+        enter: 1,
+        up: true,
+        steps: Steps { items: steps },
+    };
+    Ok(ratio(&full, Phase::Two, &piece, None, &direction))
+}
+
+// (10 - 4) / 2 = 3 lets the drain go furthest, where the feed could go 5.
+#[test]
+fn a_piece_alone(rt: HostRuntime) -> Result<(), Fail> {
+    let drain = whole_arc(up_to(10), 4, 2);
+    let upper = one_piece(rt.alloc(), &drain, &up_to(5))?;
+    assert!(rt; upper == leaves(0, Mark::Upper, 3));
+    let flip = one_piece(rt.alloc(), &drain, &up_to(2))?;
+    assert!(rt; flip == flips(2));
+    Ok(())
 }
 
 fn up_to(most: i64) -> Upper {
@@ -335,8 +447,8 @@ fn overflows(op: Op, left: Frac, right: Frac) -> Result<RatioAnswer, Overflow> {
     })
 }
 
-// The room of 1/2^64 less 1/3^50 would have the denominator 2^64 * 3^50, and 2^126 over 1/4 is 2^128. The drain cannot go at all, and still
-// the quotient of the link is made.
+// The room of 1/2^64 less 1/3^50 would have the denominator 2^64 * 3^50, and 2^126 over 1/4 is 2^128. Where the feed
+// cannot go at all, the quotient of the drain is still made.
 #[test]
 fn first_overflow(rt: HostRuntime) -> Result<(), Fail> {
     let (small, less) = (over(1, 1 << 64), over(1, 717_897_987_691_852_588_770_249));
