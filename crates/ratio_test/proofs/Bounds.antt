@@ -1,10 +1,10 @@
 -- How far one flow can go until it is at a bound.
-use Rattle.std.specs.Prelude.{◌≡◌, ◌≢◌, ◌⊎◌, pos, Bool, true, false, Option, Some, None, Result, Ok, Err, if◌then◌else◌}
+use Rattle.std.specs.Prelude.{◌≡◌, ◌≢◌, pos, Bool, true, false, Option, Some, None, Ok, if◌then◌else◌}
 use Rattle.std.proofs.Common.{refl, sym, ap, ◌∙◌, subst, arith, inl, inr}
 use Rattle.np_frac.specs.Ratio.{Ratio, zero_ratio, whole, negated, inverse, is_below, ◌≤ᵣ◌, ◌<ᵣ◌, ◌+ᵣ◌, ◌-ᵣ◌, ◌*ᵣ◌}
 use Rattle.np_frac.specs.Exact.{minus_of, over_of, ◌▷◌}
-use Rattle.np_frac.proofs.Parts.{by1, by2, by3, operations, same, same_parts}
-use Rattle.np_frac.proofs.RatioLaws.{+ᵣ_comm, +ᵣ_assoc, +ᵣ-zero, *ᵣ_assoc, *ᵣ_comm, *ᵣ-zero, zero-*ᵣ, negated-*ᵣ, add_back, ≤ᵣ_same, ≤ᵣ_refl, ≤ᵣ_trans, ≤ᵣ_antisym, below_or, <ᵣ_is_≤ᵣ, clash, +ᵣ_at_most, +ᵣ_at_most_left, *ᵣ_at_most, minus_at_most, minus_not_negative, is_below_true, is_below_false, same_by_tests}
+use Rattle.np_frac.proofs.Parts.{by2, by3, operations, same, same_parts}
+use Rattle.np_frac.proofs.RatioLaws.{+ᵣ-zero, *ᵣ_assoc, *ᵣ_comm, *ᵣ-zero, zero-*ᵣ, add_back, ≤ᵣ_same, ≤ᵣ_refl, ≤ᵣ_trans, below_or, <ᵣ_is_≤ᵣ, clash, +ᵣ_at_most, +ᵣ_at_most_left, *ᵣ_at_most, minus_at_most, is_below_true, is_below_false, same_by_tests}
 use Rattle.np_frac.proofs.Field.{+ᵣ-negated, *ᵣ-inverse, *ᵣ-one, quotient_at_most}
 use Rattle.np_frac.proofs.Facts.{quotient_times}
 use Rattle.np_frac.proofs.Exactness.{minus_exact, over_exact, found_by}

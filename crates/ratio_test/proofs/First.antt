@@ -1,17 +1,17 @@
 -- The arc that stops first, as one arc after the other is looked at.
 use Rattle.std.specs.Prelude.{◌≡◌, ◌≢◌, ◌⊎◌, ℕ, ◌<◌, ◌≤◌, ◌==◌, ◌&&◌, ◌||◌, not, Bool, true, false, if◌then◌else◌, List, [], ◌∷◌, ◌++◌, Option, Some, None, Result, Ok, Err}
 use Rattle.std.specs.Result.{IsOk}
-use Rattle.std.proofs.Common.{refl, sym, ap, ◌∙◌, subst, inl, inr, arith}
+use Rattle.std.proofs.Common.{refl, sym, ◌∙◌, subst, inl, inr, arith}
 use Rattle.std.proofs.lemmas.Bool.Decides.{eqb_tells}
 use Rattle.gain_graphs.specs.Arcs.{IsIn}
 use Rattle.gain_graphs.proofs.Lists.{in_front, in_back, in_append}
-use Rattle.np_frac.specs.Ratio.{Ratio, zero_ratio, is_below, ◌≤ᵣ◌, ◌<ᵣ◌}
+use Rattle.np_frac.specs.Ratio.{Ratio, is_below, ◌≤ᵣ◌, ◌<ᵣ◌}
 use Rattle.np_frac.specs.Exact.{◌▷◌}
 use Rattle.np_frac.specs.declared.frac.Past.{Past}
-use Rattle.np_frac.proofs.RatioLaws.{is_below_true, is_below_false, ≤ᵣ_refl, ≤ᵣ_trans, ≤ᵣ_same, ≤ᵣ_antisym, <ᵣ_is_≤ᵣ, clash}
+use Rattle.np_frac.proofs.RatioLaws.{is_below_true, is_below_false, ≤ᵣ_trans, ≤ᵣ_same, <ᵣ_is_≤ᵣ, clash}
 use Rattle.np_model.specs.Rows.Arcs.{all_of}
 use Rattle.ratio_test.specs.Limits.{bound_ahead}
-use Rattle.ratio_test.specs.Steps.Soonest.{is_sooner, soonest, with_limit, IsSoonest, IsSoonestOf}
+use Rattle.ratio_test.specs.Steps.Soonest.{soonest, with_limit, IsSoonest, IsSoonestOf}
 use Rattle.ratio_test.specs.declared.stop.Stop.{Stop}
 
 -- ---- what is found for each, in order

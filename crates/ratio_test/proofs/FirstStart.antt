@@ -1,11 +1,11 @@
 -- The start of stage one of the tests: a link from node 0 to node 1 and one back, and an artificial arc at each node.
 use Rattle.std.specs.Prelude.{◌≡◌, ◌≢◌, ◌⊎◌, ◌↔◌, ℕ, ◌<◌, pos, zero, suc, true, false, List, [], ◌∷◌, slice_index_or}
 use Rattle.std.specs.List.Sorted.{IsStrictlyIncreasing}
-use Rattle.std.proofs.Common.{refl, sym, ap, subst, ◌∙◌, inl, inr, arith}
+use Rattle.std.proofs.Common.{refl, sym, subst, ◌∙◌, inl, inr, arith}
 use Rattle.std.proofs.lemmas.List.Elements.{All-cons, All-nil}
 use Rattle.std.proofs.lemmas.Int.{ints}
 use Rattle.gain_graphs.specs.Arcs.{IsIn, Touches}
-use Rattle.np_frac.specs.Ratio.{Ratio, zero_ratio, one_ratio, negated, whole, ◌≤ᵣ◌, ◌<ᵣ◌}
+use Rattle.np_frac.specs.Ratio.{Ratio, zero_ratio, one_ratio, negated, whole, ◌<ᵣ◌}
 use Rattle.np_frac.proofs.RatioLaws.{≤ᵣ_refl, <ᵣ_is_≤ᵣ}
 use Rattle.np_frac.proofs.Field.{one-zero}
 use Rattle.np_model.specs.declared.arc.Ends.{Ends}
@@ -22,7 +22,7 @@ use Rattle.np_model.specs.Basis.Graphs.{graph_ends, ends_at}
 use Rattle.np_model.specs.Basis.Phases.{with_artificial}
 use Rattle.np_model.specs.Basis.Pieces.{PieceLists}
 use Rattle.np_model.specs.Basis.Sound.{IsInNet}
-use Rattle.ratio_test.specs.Asked.{AreWithin, IsOutside, IsAlong, unit_of}
+use Rattle.ratio_test.specs.Asked.{AreWithin, IsOutside, IsAlong}
 use Rattle.ratio_test.proofs.OneNode.{alone, in_net, two_rise, not_basic, unit_apart, two_are_within}
 use Rattle.ratio_test.proofs.TwoNodes.{from_0, supplies}
 

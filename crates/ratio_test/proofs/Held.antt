@@ -1,9 +1,9 @@
 -- What one or two pieces say of the arcs of a direction.
-use Rattle.std.specs.Prelude.{◌≡◌, ◌≢◌, ◌⊎◌, ◌↔◌, ℕ, ◌<◌, ◌≤◌, List, [], ◌∷◌, ◌++◌, map, length}
+use Rattle.std.specs.Prelude.{◌≡◌, ◌≢◌, ◌⊎◌, ℕ, ◌<◌, ◌≤◌, List, [], ◌∷◌, ◌++◌, map, length}
 use Rattle.std.specs.List.{flat_map}
 use Rattle.std.proofs.Common.{refl, sym, ap, ap₂, ◌∙◌, subst, inl, inr, arith}
 use Rattle.std.proofs.lemmas.List.{map-append, length-append, length-map}
-use Rattle.gain_graphs.specs.Arcs.{IsIn, AreDistinct, Touches}
+use Rattle.gain_graphs.specs.Arcs.{IsIn, Touches}
 use Rattle.gain_graphs.specs.QuasiTrees.{LiesIn}
 use Rattle.gain_graphs.proofs.Lists.{in_front, in_back, in_append, in_map, in_map_of, apart_parts}
 use Rattle.np_frac.specs.Ratio.{Ratio, zero_ratio, ◌≤ᵣ◌}
@@ -22,8 +22,8 @@ use Rattle.np_model.specs.Network.Flows.{Network}
 use Rattle.np_model.specs.Network.Nets.{IsSoundArc}
 use Rattle.np_model.specs.Basis.Graphs.{ratios, graph_ends, arc_at, ends_at, no_arc}
 use Rattle.np_model.specs.Basis.Phases.{phase_net, real_arc, artificial_arc, all_arcs}
-use Rattle.np_model.specs.Basis.Pieces.{PieceLists, nodes_in, basics_in, ends_in, marked_in, beside, marks_of, flows_of, nodes_of, basics_of, AreApart}
-use Rattle.np_model.specs.Basis.Sound.{IsInNet, HoldEnds, bound_at, values_in}
+use Rattle.np_model.specs.Basis.Pieces.{PieceLists, nodes_in, basics_in, ends_in, marked_in, beside, marks_of, flows_of, nodes_of, basics_of}
+use Rattle.np_model.specs.Basis.Sound.{IsInNet, bound_at, values_in}
 use Rattle.np_model.specs.Basis.States.{StandsAt}
 use Rattle.np_model.proofs.FullNets.{real_at, artificial_at}
 use Rattle.np_frac.proofs.RatioLaws.{≤ᵣ_refl}

@@ -1,14 +1,14 @@
 -- The network of the tests: a feed at node 0, a drain at node 1, and a link between them; and a piece for each node.
-use Rattle.std.specs.Prelude.{◌≡◌, ◌≢◌, ◌⊎◌, ◌↔◌, ℕ, ◌<◌, zero, suc, ◌&&◌, ◌||◌, not, Bool, true, false, List, [], ◌∷◌, length, map, slice_index_or}
+use Rattle.std.specs.Prelude.{◌≡◌, ◌≢◌, ◌⊎◌, ◌↔◌, ℕ, ◌<◌, zero, suc, ◌&&◌, ◌||◌, not, Bool, true, false, List, [], ◌∷◌, slice_index_or}
 use Rattle.std.specs.List.Sorted.{IsStrictlyIncreasing}
-use Rattle.std.proofs.Common.{refl, sym, ap, subst, ◌∙◌, inl, inr, arith}
+use Rattle.std.proofs.Common.{refl, sym, subst, ◌∙◌, inl, inr, arith}
 use Rattle.std.proofs.lemmas.Bool.{and_parts}
 use Rattle.std.proofs.lemmas.List.Elements.{All-cons, All-nil}
 use Rattle.std.proofs.lemmas.Int.{ints}
 use Rattle.gain_graphs.specs.Arcs.{IsIn, Touches}
-use Rattle.np_frac.specs.Ratio.{Ratio, zero_ratio, one_ratio, whole, is_below, ◌≤ᵣ◌, ◌<ᵣ◌, ◌+ᵣ◌}
-use Rattle.np_frac.proofs.RatioLaws.{+ᵣ-zero, ≤ᵣ_trans, is_below_true, is_below_false, ≤ᵣ_same, clash}
-use Rattle.np_frac.proofs.Field.{one-zero, +ᵣ-negated}
+use Rattle.np_frac.specs.Ratio.{Ratio, zero_ratio, one_ratio, whole, is_below, ◌≤ᵣ◌, ◌<ᵣ◌}
+use Rattle.np_frac.proofs.RatioLaws.{≤ᵣ_trans, is_below_true, is_below_false, ≤ᵣ_same, clash}
+use Rattle.np_frac.proofs.Field.{one-zero}
 use Rattle.np_model.specs.declared.arc.Ends.{Ends}
 use Rattle.np_model.specs.declared.arc.Ends.TheVariants.{Link, Drain, Feed}
 use Rattle.np_model.specs.declared.arc.NetArc.{NetArc}
@@ -18,13 +18,13 @@ use Rattle.np_model.specs.declared.log.Mark.{Mark}
 use Rattle.np_model.specs.declared.log.Mark.TheVariants.{Lower, Upper, Basic}
 use Rattle.np_model.specs.declared.phase.Phase.TheVariants.{Two}
 use Rattle.np_model.specs.declared.piece.Direction.{Direction}
-use Rattle.np_model.specs.Network.Arcs.{IsAtMost, IsFinite, IsWithin, is_at_most}
+use Rattle.np_model.specs.Network.Arcs.{IsAtMost, IsFinite, is_at_most}
 use Rattle.np_model.specs.Network.Flows.{Network}
 use Rattle.np_model.specs.Network.Nets.{IsNet, IsSoundArc}
 use Rattle.np_model.specs.Basis.Artificial.{AreArtificial, IsOneEndAt}
-use Rattle.np_model.specs.Basis.Graphs.{graph_ends, arc_at, ends_at}
+use Rattle.np_model.specs.Basis.Graphs.{graph_ends, ends_at}
 use Rattle.np_model.specs.Basis.Phases.{with_artificial}
-use Rattle.np_model.specs.Basis.Pieces.{PieceLists, basics_of}
+use Rattle.np_model.specs.Basis.Pieces.{PieceLists}
 use Rattle.np_model.specs.Basis.Sound.{IsInNet, bound_at}
 use Rattle.np_model.specs.Basis.States.{StandsAt}
 use Rattle.np_model.proofs.Tested.{at-most-so}

@@ -1,12 +1,12 @@
 -- What the arc that stops first says of all flows.
-use Rattle.std.specs.Prelude.{◌≡◌, ◌≢◌, ◌⊎◌, ℕ, ◌<◌, ◌≤◌, ◌==◌, if◌then◌else◌, Bool, true, false, List, [], ◌∷◌, map, length, Option, Some, None, Result, Ok, Err}
+use Rattle.std.specs.Prelude.{◌≡◌, ◌≢◌, ◌⊎◌, ℕ, ◌≤◌, ◌==◌, if◌then◌else◌, Bool, true, false, List, ◌∷◌, Option, Some, None, Result, Ok, Err}
 use Rattle.std.specs.Result.{IsOk}
-use Rattle.std.proofs.Common.{refl, sym, ap, ◌∙◌, subst, inl, inr, arith}
+use Rattle.std.proofs.Common.{refl, sym, ap, ◌∙◌, subst, inl, inr}
 use Rattle.std.proofs.lemmas.Bool.Decides.{eqb_tells}
 use Rattle.gain_graphs.specs.Arcs.{IsIn}
-use Rattle.np_frac.specs.Ratio.{Ratio, zero_ratio, one_ratio, negated, whole, is_below, ◌≤ᵣ◌, ◌+ᵣ◌, ◌*ᵣ◌}
+use Rattle.np_frac.specs.Ratio.{Ratio, zero_ratio, negated, whole, ◌+ᵣ◌, ◌*ᵣ◌}
 use Rattle.np_frac.specs.declared.frac.Past.{Past}
-use Rattle.np_frac.proofs.RatioLaws.{+ᵣ-zero, *ᵣ-zero, ≤ᵣ_refl}
+use Rattle.np_frac.proofs.RatioLaws.{+ᵣ-zero, *ᵣ-zero}
 use Rattle.np_model.specs.declared.log.Mark.{Mark}
 use Rattle.np_model.specs.declared.network.FullNet.{FullNet}
 use Rattle.np_model.specs.declared.phase.Phase.{Phase}
@@ -14,7 +14,7 @@ use Rattle.np_model.specs.declared.piece.Direction.{Direction}
 use Rattle.np_model.specs.Network.Arcs.{IsWithin}
 use Rattle.np_model.specs.Network.Flows.{Network}
 use Rattle.np_model.specs.Basis.Graphs.{arc_at}
-use Rattle.np_model.specs.Basis.Moves.{KeepsBounds, Stops, IsTowards}
+use Rattle.np_model.specs.Basis.Moves.{Stops, IsTowards}
 use Rattle.np_model.specs.Basis.Phases.{phase_net}
 use Rattle.np_model.specs.Basis.Pieces.{PieceLists, basics_of, beside}
 use Rattle.np_model.specs.Basis.Sound.{values_in}
@@ -22,11 +22,10 @@ use Rattle.np_model.specs.Basis.States.{Values, StandsAt}
 use Rattle.np_model.specs.Rows.Arcs.{limit_of}
 use Rattle.ratio_test.specs.Answers.{IsGreatest, IsUnbounded, IsRatio}
 use Rattle.ratio_test.specs.Asked.{AreWithin, IsOutside, IsAlong, unit_of, far_bound}
-use Rattle.ratio_test.specs.Limits.{moving, bound_ahead, IsFree, IsLimited, IsLimit}
+use Rattle.ratio_test.specs.Limits.{moving, bound_ahead, IsLimited, IsLimit}
 use Rattle.ratio_test.specs.Steps.Soonest.{IsSoonest, IsSoonestOf, answer_of}
 use Rattle.ratio_test.specs.declared.stop.Stop.{Stop}
-use Rattle.ratio_test.specs.declared.answer.RatioAnswer.{RatioAnswer}
-use Rattle.ratio_test.specs.declared.answer.RatioAnswer.TheVariants.{Flip, Leave, Ray}
+use Rattle.ratio_test.specs.declared.answer.RatioAnswer.TheVariants.{Flip, Leave}
 use Rattle.ratio_test.proofs.Bounds.{limit_found}
 use Rattle.ratio_test.proofs.Members.{stands_or, beside_entry, beside_absent}
 use Rattle.ratio_test.proofs.Held.{basic_within, enter_within}

@@ -1,7 +1,6 @@
 -- The laws of the ratio test.
 use Rattle.std.specs.Prelude.{◌≡◌, ℕ, List, ◌∷◌}
 use Rattle.np_frac.specs.Ratio.{Ratio, zero_ratio}
-use Rattle.np_model.specs.declared.log.Entry.{Entry}
 use Rattle.np_model.specs.declared.log.Mark.{Mark}
 use Rattle.np_model.specs.declared.piece.Direction.{Direction}
 use Rattle.np_model.specs.Network.Flows.{Network}

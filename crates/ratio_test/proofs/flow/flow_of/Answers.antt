@@ -1,4 +1,4 @@
-use Rattle.std.proofs.Common.{◌≡◌, ◌∙◌, ℕ, sym, ap, subst, inl, inr}
+use Rattle.std.proofs.Common.{◌∙◌, ℕ, sym, ap, subst, inl, inr}
 use Rattle.gain_graphs.specs.Arcs.{IsIn}
 use Rattle.np_model.specs.declared.log.Mark.{Mark}
 use Rattle.np_model.specs.Basis.Graphs.{arc_at}

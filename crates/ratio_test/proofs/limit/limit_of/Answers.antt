@@ -1,5 +1,5 @@
-use Rattle.std.proofs.Common.{◌≡◌, ◌∙◌, sym, subst, true, ap}
-use Rattle.np_frac.specs.Ratio.{Ratio, zero_ratio, negated, is_below, ◌<ᵣ◌}
+use Rattle.std.proofs.Common.{◌∙◌, sym}
+use Rattle.np_frac.specs.Ratio.{zero_ratio, negated, ◌<ᵣ◌}
 use Rattle.np_frac.proofs.RatioLaws.{is_below_true}
 use Rattle.ratio_test.proofs.Bounds.{apart, num_apart, opposite_above}
 use Rattle.ratio_test.proofs.limit.limit_of.Goals as goal

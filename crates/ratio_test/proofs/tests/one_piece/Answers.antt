@@ -1,8 +1,8 @@
 use Rattle.std.proofs.Common.{◌≡◌, ◌∙◌, [], ◌∷◌, refl, sym, true}
-use Rattle.np_frac.specs.Ratio.{zero_ratio, one_ratio}
-use Rattle.np_model.specs.Network.Arcs.{IsAtMost, is_at_most}
+use Rattle.np_frac.specs.Ratio.{zero_ratio}
+use Rattle.np_model.specs.Network.Arcs.{is_at_most}
 use Rattle.np_model.proofs.Tested.{at-most-so}
-use Rattle.ratio_test.specs.Asked.{AreWithin, IsOutside, IsAlong}
+use Rattle.ratio_test.specs.Asked.{AreWithin, IsOutside}
 use Rattle.ratio_test.proofs.TwoNodes.{carried}
 use Rattle.ratio_test.proofs.Single.{arcs_of, piece_of, is_net, are_artificial, within, outside, along, same_of}
 use Rattle.ratio_test.proofs.tests.one_piece.Goals as goal

@@ -1,4 +1,4 @@
-use Rattle.std.proofs.Common.{◌≡◌, ◌∙◌, [], ◌∷◌, refl, sym, ap, true}
+use Rattle.std.proofs.Common.{◌≡◌, ◌∙◌, [], ◌∷◌, refl, ap, true}
 use Rattle.np_frac.specs.Ratio.{zero_ratio}
 use Rattle.np_model.specs.Basis.Pieces.{PieceLists}
 use Rattle.np_model.specs.declared.piece.Direction.{Direction}
