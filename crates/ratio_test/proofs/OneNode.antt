@@ -18,7 +18,8 @@ use Rattle.np_model.specs.Basis.Artificial.{IsOneEndAt}
 use Rattle.np_model.specs.Basis.Graphs.{ratios, graph_ends, arc_at, ends_at}
 use Rattle.np_model.specs.Basis.Pieces.{PieceLists, HasShape}
 use Rattle.np_model.specs.Basis.Sound.{IsInNet}
-use Rattle.ratio_test.specs.Asked.{AreWithin, unit_of}
+use Rattle.ratio_test.specs.Asked.{AreWithin}
+use Rattle.np_basis.specs.PivotLaws.{unit_of}
 
 abbrev pub alone : ℕ → ℕ → Ends → Ratio → List (ℕ × Mark) → PieceLists
 alone v a e x marks = record { nodes = (v, zero_ratio) ∷ []; basics = (a, e, x) ∷ []; marks = marks }

@@ -28,7 +28,8 @@ use Rattle.np_model.specs.Basis.Pieces.{PieceLists}
 use Rattle.np_model.specs.Basis.Sound.{IsInNet, bound_at}
 use Rattle.np_model.specs.Basis.States.{StandsAt}
 use Rattle.np_model.proofs.Tested.{at-most-so}
-use Rattle.ratio_test.specs.Asked.{AreWithin, IsOutside, IsAlong, unit_of}
+use Rattle.ratio_test.specs.Asked.{AreWithin, IsOutside, IsAlong}
+use Rattle.np_basis.specs.PivotLaws.{unit_of}
 use Rattle.ratio_test.proofs.OneNode.{alone, in_net, two_rise, not_basic, unit_apart, two_are_within}
 
 abbrev pub from_0 : Ends → UpperBound → NetArc

@@ -21,7 +21,8 @@ use Rattle.np_model.specs.Basis.Sound.{values_in}
 use Rattle.np_model.specs.Basis.States.{Values, StandsAt}
 use Rattle.np_model.specs.Rows.Arcs.{limit_of}
 use Rattle.ratio_test.specs.Answers.{IsGreatest, IsUnbounded, IsRatio}
-use Rattle.ratio_test.specs.Asked.{AreWithin, IsOutside, IsAlong, unit_of, far_bound}
+use Rattle.ratio_test.specs.Asked.{AreWithin, IsOutside, IsAlong, far_bound}
+use Rattle.np_basis.specs.PivotLaws.{unit_of}
 use Rattle.ratio_test.specs.Limits.{moving, bound_ahead, IsLimited, IsLimit}
 use Rattle.ratio_test.specs.Steps.Soonest.{IsSoonest, IsSoonestOf, answer_of}
 use Rattle.ratio_test.specs.declared.stop.Stop.{Stop}

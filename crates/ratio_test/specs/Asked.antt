@@ -1,8 +1,8 @@
 -- What a ratio test is asked: pieces, and a direction to follow from them.
-use Rattle.std.specs.Prelude.{◌≡◌, ◌≢◌, ◌⊎◌, ℕ, ◌<◌, Bool, true, false, List, [], ◌∷◌, length, Option, Some, None}
+use Rattle.std.specs.Prelude.{◌≡◌, ◌≢◌, ◌⊎◌, ℕ, ◌<◌, Bool, true, false, List, length}
 use Rattle.std.specs.List.Sorted.{IsStrictlyIncreasing}
 use Rattle.gain_graphs.specs.Arcs.{IsIn}
-use Rattle.np_frac.specs.Ratio.{Ratio, zero_ratio, one_ratio, negated}
+use Rattle.np_frac.specs.Ratio.{Ratio, zero_ratio}
 use Rattle.np_model.specs.declared.arc.Ends.{Ends}
 use Rattle.np_model.specs.declared.log.Mark.{Mark}
 use Rattle.np_model.specs.declared.log.Mark.TheVariants.{Lower, Upper}
@@ -13,12 +13,8 @@ use Rattle.np_model.specs.Basis.Graphs.{arc_at, ends_at}
 use Rattle.np_model.specs.Basis.Pieces.{PieceLists, basics_of, beside, AreApart}
 use Rattle.np_model.specs.Basis.Sound.{IsInNet, HoldEnds, bound_at, values_in}
 use Rattle.np_model.specs.Basis.States.{StandsAt}
+use Rattle.np_basis.specs.PivotLaws.{unit_of}
 use Rattle.ratio_test.specs.Limits.{moving}
-
--- the lists of one piece, or of two
-abbrev pub lists_of : {A : Type 0} → (A → PieceLists) → PieceLists → Option A → List PieceLists
-lists_of lists first None = first ∷ []
-lists_of lists first (Some second) = first ∷ lists second ∷ []
 
 -- pieces of the network that share no node, with flows within bounds
 pub record AreWithin (net : Network) (pieces : List PieceLists) : Type 0 where
@@ -33,11 +29,7 @@ pub record IsOutside (net : Network) (pieces : List PieceLists) (enter : ℕ) : 
   pub not_basic : ¬ IsIn enter (basics_of pieces)
   pub at_bound : let mark = (values_in net pieces).mark enter in StandsAt (arc_at net.arcs enter) mark (bound_at (arc_at net.arcs enter) mark)
 
--- what the entering arc has of a direction, and the bound towards which it goes
-abbrev pub unit_of : Bool → Ratio
-unit_of true = one_ratio
-unit_of false = negated one_ratio
-
+-- the bound towards which the entering arc goes
 abbrev pub far_bound : Bool → Mark
 far_bound true = Upper
 far_bound false = Lower

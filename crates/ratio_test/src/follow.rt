@@ -2,7 +2,8 @@
 
 ghost use Rattle.std.specs.Prelude.{◌≡◌, MatchResult};
 ghost use Rattle.np_model.specs.Basis.Phases.{phase_net};
-ghost use Rattle.ratio_test.specs.Asked.{lists_of, AreWithin, IsOutside, IsAlong};
+ghost use Rattle.ratio_test.specs.Asked.{AreWithin, IsOutside, IsAlong};
+ghost use Rattle.np_basis.specs.PivotLaws.{lists_of};
 ghost use Rattle.ratio_test.specs.Answers.{IsAnswer, IsOverflow};
 
 use crate::answer::RatioAnswer;

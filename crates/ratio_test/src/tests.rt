@@ -5,7 +5,7 @@ ghost use Rattle.np_frac.specs.Ratio.{zero_ratio, one_ratio, is_below};
 ghost use Rattle.np_model.specs.declared.arc.Ends.TheVariants.{Link as LinkEnds, Drain as DrainEnds, Feed as FeedEnds};
 ghost use Rattle.np_model.specs.declared.log.Mark.TheVariants as TheMark;
 ghost use Rattle.np_model.specs.Network.Arcs.{IsAtMost, IsFinite, is_at_most};
-ghost use Rattle.ratio_test.specs.Asked.{unit_of};
+ghost use Rattle.np_basis.specs.PivotLaws.{unit_of};
 
 use crate::{RatioAnswer, ratio};
 use np_frac::{Frac, Memory, Op, Past};

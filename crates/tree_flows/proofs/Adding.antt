@@ -1,5 +1,5 @@
 -- The arcs whose terms are added at a node, by places and by numbers.
-use Rattle.std.specs.Prelude.{◌≡◌, ◌≢◌, ◌⊎◌, ◌↔◌, ◌<◌, ◌≤◌, ◌+◌, ◌-◌, ◌&&◌, nat_lt, nat_le, ℕ, nat_eq, zero, suc, cond, Bool, true, false, List, [], ◌∷◌, ◌++◌, length, drop, slice_index, slice_index_or, if◌then◌else◌, Result, Ok, Err}
+use Rattle.std.specs.Prelude.{◌≡◌, ◌≢◌, ◌⊎◌, ◌<◌, ◌≤◌, ◌+◌, ◌-◌, ◌&&◌, ℕ, nat_eq, zero, suc, Bool, true, false, List, [], ◌∷◌, ◌++◌, length, drop, slice_index_or, if◌then◌else◌, Result, Ok, Err}
 use Rattle.std.proofs.Common.{refl, sym, ap, ap₂, subst, ◌∙◌, inl, inr, arith, eqb-true, eq-eqb, true≢false, get_or, ltb-true, lt-ltb, leb-true, le-leb}
 use Rattle.std.proofs.Math.Seq.{drop-cons}
 use Rattle.gain_graphs.specs.Arcs.{IsIn, Touches}
@@ -23,7 +23,7 @@ use Rattle.np_model.specs.Basis.Pieces.{nodes_in}
 use Rattle.tree_search.specs.Search.{TouchesAt, IsFirstFrom}
 use Rattle.tree_search.specs.Outwards.{IsStepOver}
 use Rattle.tree_search.proofs.Trees as places
-use Rattle.tree_flows.specs.Along.{IsWithin, has_end, ending_at, arcs_from, in_part, add_place, sum_part, add_entering, sum_of}
+use Rattle.tree_flows.specs.Along.{IsWithin, has_end, ending_at, arcs_from, in_part, sum_part, add_entering, sum_of}
 use Rattle.tree_flows.proofs.Zeros.{add_nothing, zero_fits}
 use Rattle.tree_flows.proofs.Coefficients.{touch_true, true_touch, joins_touches}
 use Rattle.tree_flows.proofs.Results.{same_when, then_then}

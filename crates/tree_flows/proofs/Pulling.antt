@@ -1,12 +1,10 @@
 -- A direction on pieces of a network is one on each of them; and there is one.
-use Rattle.std.specs.Prelude.{◌≡◌, ◌≢◌, ◌⊎◌, ◌<◌, ℕ, nat_eq, Bool, true, false, List, [], ◌∷◌, ◌++◌, map, length, if◌then◌else◌}
-use Rattle.std.specs.List.{flat_map}
-use Rattle.std.proofs.Common.{refl, sym, ap, ap₂, subst, ◌∙◌, inl, inr, eqb-true, eq-eqb, true≢false}
+use Rattle.std.specs.Prelude.{◌≡◌, ◌≢◌, ◌⊎◌, ◌<◌, ℕ, nat_eq, Bool, true, false, List, [], ◌∷◌, map, length, if◌then◌else◌}
+use Rattle.std.proofs.Common.{refl, sym, ap, ap₂, subst, ◌∙◌, inl, inr, eqb-true, eq-eqb}
 use Rattle.gain_graphs.specs.Field as field
 use Rattle.gain_graphs.specs.Arcs.{IsIn, AreDistinct, Touches}
 use Rattle.gain_graphs.specs.QuasiTrees.{LiesIn}
-use Rattle.gain_graphs.proofs.Algebra as algebra
-use Rattle.gain_graphs.proofs.Lists.{in_front, in_back, in_append, distinct_append, apart_parts, once_left, once_right, decide_in}
+use Rattle.gain_graphs.proofs.Lists.{in_front, in_back, in_append, distinct_append, apart_parts, once_right, decide_in}
 use Rattle.gain_graphs.proofs.Pieces as graph_pieces
 use Rattle.gain_graphs.proofs.Sums as sums
 use Rattle.gain_graphs.proofs.Theorems as theorems
@@ -20,13 +18,14 @@ use Rattle.np_model.specs.Network.Flows.{Network}
 use Rattle.np_model.specs.Basis.Graphs.{ratios, graph_ends, graph_of, no_arc, ends_at}
 use Rattle.np_model.specs.Basis.Pieces.{PieceLists, nodes_in, basics_in, nodes_of, basics_of}
 use Rattle.np_model.specs.Basis.Sound.{IsInNet}
-use Rattle.np_model.specs.Basis.Moves.{IsDirection, balance_on}
+use Rattle.np_model.specs.Basis.Moves.{balance_on}
 use Rattle.np_basis.specs.Laws.{HasSoundArcs}
 use Rattle.np_basis.proofs.Ascending.{ascends, ascends_once}
 use Rattle.np_basis.proofs.Extras.{links_are_no_loops}
 use Rattle.np_basis.proofs.Trees as trees
 use Rattle.tree_flows.specs.declared.sums.Entering.{Entering}
-use Rattle.tree_flows.specs.Answers.{CanEnter, IsDirectionOf, IsPulled, ArePulled}
+use Rattle.tree_flows.specs.Answers.{CanEnter, IsPulled, ArePulled}
+use Rattle.np_basis.specs.PivotLaws.{IsDirectionOf}
 use Rattle.tree_flows.proofs.Coefficients.{K}
 
 total_map : {A B : Type 0} (f : B → Ratio) (g : A → B) (xs : List A) → field.total ratios f (map g xs) ≡ field.total ratios (λ x. f (g x)) xs

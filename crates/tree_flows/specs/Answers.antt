@@ -1,9 +1,9 @@
 -- What the direction of an entering arc is on one piece or two, and where their rows give an operation that overflows.
-use Rattle.std.specs.Prelude.{◌≡◌, ◌≢◌, ◌<◌, ℕ, Bool, List, [], ◌∷◌, map, length, if◌then◌else◌, Option, Some, None, ⊤}
+use Rattle.std.specs.Prelude.{◌≡◌, ◌≢◌, ◌<◌, ℕ, Bool, List, [], ◌∷◌, map, length, if◌then◌else◌, ⊤}
 use Rattle.std.specs.List.Sorted.{IsStrictlyIncreasing}
 use Rattle.gain_graphs.specs.Arcs.{IsIn, AreDistinct}
 use Rattle.gain_graphs.specs.Cycles.{IsNoLoop}
-use Rattle.np_frac.specs.Ratio.{Ratio, zero_ratio, one_ratio, negated}
+use Rattle.np_frac.specs.Ratio.{Ratio, zero_ratio}
 use Rattle.np_frac.specs.Fits.{Fits}
 use Rattle.np_frac.specs.declared.frac.Past.{Past}
 use Rattle.np_model.specs.declared.arc.Ends.{Ends}
@@ -14,11 +14,11 @@ use Rattle.np_model.specs.declared.rows.Overflow.{Overflow}
 use Rattle.np_model.specs.declared.rows.Place.TheVariants.{Arc}
 use Rattle.np_model.specs.Network.Flows.{Network, at}
 use Rattle.np_model.specs.Basis.Graphs.{graph_ends, ends_at}
-use Rattle.np_model.specs.Basis.Pieces.{PieceLists, nodes_in, basics_in, beside, nodes_of, basics_of, AreApart}
+use Rattle.np_model.specs.Basis.Pieces.{PieceLists, nodes_in, basics_in, beside, basics_of, AreApart}
 use Rattle.np_model.specs.Basis.Sound.{IsInNet, HoldEnds}
-use Rattle.np_model.specs.Basis.Moves.{IsDirection, balance_on}
+use Rattle.np_model.specs.Basis.Moves.{balance_on}
 use Rattle.np_model.specs.Rows.Directions.{DirectionFits, DirectionGives}
-use Rattle.quasi_tree.specs.Store.{Store}
+use Rattle.np_basis.specs.PivotLaws.{unit_of, IsDirectionOf}
 use Rattle.tree_search.specs.Places.{number_by_place}
 use Rattle.tree_flows.specs.declared.refusal.DirRefusal.{DirRefusal}
 use Rattle.tree_flows.specs.declared.refusal.DirRefusal.TheVariants as refusal
@@ -27,11 +27,6 @@ use Rattle.tree_flows.specs.Along.{is_zero}
 
 -- ---- one piece or two, and an arc that enters
 
--- the first piece, and the second where there is one
-abbrev pub pieces_given : PieceLists → Option Store → List PieceLists
-pieces_given first None = first ∷ []
-pieces_given first (Some second) = first ∷ second.lists ∷ []
-
 -- pieces of the network that share no node and hold the ends of the arc, which is basic in none of them
 pub record CanEnter (net : Network) (pieces : List PieceLists) (enter : ℕ) : Type 0 where
   pub in_net : (p : PieceLists) → IsIn p pieces → IsInNet net p
@@ -39,14 +34,6 @@ pub record CanEnter (net : Network) (pieces : List PieceLists) (enter : ℕ) : T
   pub inside : enter < length net.arcs
   pub holds : HoldEnds pieces (ends_at net.arcs enter)
   pub outside : ¬ IsIn enter (basics_of pieces)
-
--- an arc enters upwards with an amount of 1, and downwards with -1
-abbrev pub unit_of : Bool → Ratio
-unit_of up = if up then one_ratio else negated one_ratio
-
--- these amounts are the direction of the arc on the pieces
-abbrev pub IsDirectionOf : Network → List PieceLists → ℕ → Ratio → (ℕ → Ratio) → Type 0
-IsDirectionOf net pieces enter amount d = IsDirection net (nodes_of pieces) (enter ∷ basics_of pieces) (basics_of pieces) enter amount d
 
 -- ---- the answer
 

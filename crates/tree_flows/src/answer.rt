@@ -6,7 +6,8 @@ ghost use Rattle.np_frac.specs.declared.frac.Past.{Past as ThePast};
 ghost use Rattle.np_model.specs.declared.phase.Phase.{Phase as ThePhase};
 ghost use Rattle.np_model.specs.declared.rows.Row.{Row as TheRow};
 ghost use Rattle.np_model.specs.Basis.Phases.{phase_net};
-ghost use Rattle.tree_flows.specs.Answers.{pieces_given, unit_of, CanEnter, IsAnswer, GivesPast, IsCause};
+ghost use Rattle.tree_flows.specs.Answers.{CanEnter, IsAnswer, GivesPast, IsCause};
+ghost use Rattle.np_basis.specs.PivotLaws.{lists_of, unit_of};
 
 use crate::moves::in_order;
 use crate::pieces::steps_on;
@@ -48,12 +49,12 @@ pub fn direction(
     enter: u32,
     up: bool,
 ) -> Result<Direction, DirRefusal>
-    requires enters { (phase : ThePhase) × CanEnter (phase_net phase full.now) (pieces_given first.now.lists (option_copied second)) enter }
-    ensures answer { (phase : ThePhase) → CanEnter (phase_net phase full.now) (pieces_given first.now.lists (option_copied second.entry)) enter
-        → MatchResult result (IsAnswer (phase_net phase full.now) (pieces_given first.now.lists (option_copied second.entry)) enter up)
-        (IsCause (phase_net phase full.now) (pieces_given first.now.lists (option_copied second.entry)) enter up) }
-    ensures exact { (phase : ThePhase) (row : TheRow) (past : ThePast) → CanEnter (phase_net phase full.now) (pieces_given first.now.lists (option_copied second.entry)) enter
-        → GivesPast (phase_net phase full.now) (pieces_given first.now.lists (option_copied second.entry)) enter up row past → IfOk result (λ _. ⊥) }
+    requires enters { (phase : ThePhase) × CanEnter (phase_net phase full.now) (lists_of (λ s. s.lists) first.now.lists (option_copied second)) enter }
+    ensures answer { (phase : ThePhase) → CanEnter (phase_net phase full.now) (lists_of (λ s. s.lists) first.now.lists (option_copied second.entry)) enter
+        → MatchResult result (IsAnswer (phase_net phase full.now) (lists_of (λ s. s.lists) first.now.lists (option_copied second.entry)) enter up)
+        (IsCause (phase_net phase full.now) (lists_of (λ s. s.lists) first.now.lists (option_copied second.entry)) enter up) }
+    ensures exact { (phase : ThePhase) (row : TheRow) (past : ThePast) → CanEnter (phase_net phase full.now) (lists_of (λ s. s.lists) first.now.lists (option_copied second.entry)) enter
+        → GivesPast (phase_net phase full.now) (lists_of (λ s. s.lists) first.now.lists (option_copied second.entry)) enter up row past → IfOk result (λ _. ⊥) }
 {
     let entering = Entering {
         arc: enter,

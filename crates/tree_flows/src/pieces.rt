@@ -11,7 +11,8 @@ ghost use Rattle.np_model.specs.Basis.Sound.{IsInNet};
 ghost use Rattle.np_model.specs.Network.Flows.{Network, at};
 ghost use Rattle.np_basis.specs.Laws.{HasSoundArcs};
 ghost use Rattle.tree_flows.specs.Walks.{IsLaidOut};
-ghost use Rattle.tree_flows.specs.Answers.{pieces_given, piece_of, IsPulled, ArePulled, AreAmounts, IsOverflow, AreStepsOn, IsRefusedOn};
+ghost use Rattle.tree_flows.specs.Answers.{piece_of, IsPulled, ArePulled, AreAmounts, IsOverflow, AreStepsOn, IsRefusedOn};
+ghost use Rattle.np_basis.specs.PivotLaws.{lists_of};
 
 use crate::layout::{Layout, layout_of, zeros};
 use crate::moves::with_moving;
@@ -168,10 +169,10 @@ pub(crate) fn steps_on(
     second: Option<&Quasi>,
     entering: &Entering,
 ) -> Result<Vec<(u32, Frac)>, DirRefusal>
-    requires in_net { (net : Network) × HasSoundArcs net × ((p : ThePiece) → IsIn p (pieces_given first.now.lists (option_copied second)) → IsInNet net p) }
-    ensures { (net : Network) (d : ℕ → Ratio) → HasSoundArcs net → ArePulled net (pieces_given first.now.lists (option_copied second.entry)) entering.now d
-        → MatchResult result (λ steps. AreStepsOn net (pieces_given first.now.lists (option_copied second.entry)) entering.now.arc d steps.items)
-        (IsRefusedOn net (pieces_given first.now.lists (option_copied second.entry)) entering.now.arc d) }
+    requires in_net { (net : Network) × HasSoundArcs net × ((p : ThePiece) → IsIn p (lists_of (λ s. s.lists) first.now.lists (option_copied second)) → IsInNet net p) }
+    ensures { (net : Network) (d : ℕ → Ratio) → HasSoundArcs net → ArePulled net (lists_of (λ s. s.lists) first.now.lists (option_copied second.entry)) entering.now d
+        → MatchResult result (λ steps. AreStepsOn net (lists_of (λ s. s.lists) first.now.lists (option_copied second.entry)) entering.now.arc d steps.items)
+        (IsRefusedOn net (lists_of (λ s. s.lists) first.now.lists (option_copied second.entry)) entering.now.arc d) }
 {
     match second {
         None => steps_on_one(alloc, first, entering),

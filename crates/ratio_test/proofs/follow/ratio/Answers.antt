@@ -9,7 +9,7 @@ use Rattle.np_model.specs.Basis.Phases.{phase_net, all_arcs}
 use Rattle.np_model.specs.Basis.Pieces.{beside}
 use Rattle.np_model.specs.Basis.Sound.{values_in}
 use Rattle.np_model.specs.Rows.Arcs.{limit_of}
-use Rattle.ratio_test.specs.Asked.{lists_of}
+use Rattle.np_basis.specs.PivotLaws.{lists_of}
 use Rattle.ratio_test.specs.Limits.{moving}
 use Rattle.ratio_test.specs.Steps.Soonest.{IsSoonestOf}
 use Rattle.ratio_test.proofs.Held.{counted, basic_is_arc}

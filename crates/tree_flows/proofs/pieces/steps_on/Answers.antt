@@ -1,7 +1,8 @@
 use Rattle.std.proofs.Common.{inl, inr, refl, sym, subst}
 use Rattle.std.specs.Option.{option_copied}
 use Rattle.gain_graphs.specs.Arcs.{IsIn}
-use Rattle.tree_flows.specs.Answers.{pieces_given}
+use Rattle.np_basis.specs.PivotLaws.{lists_of}
+use Rattle.quasi_tree.specs.Store.{Store}
 use Rattle.tree_flows.proofs.pieces.steps_on.Goals as goal
 
 pub steps_on_one-requires : goal.steps_on_one-requires
@@ -9,7 +10,7 @@ steps_on_one-requires c = record {
   in_net = (
     c.requires.in_net.0,
     c.requires.in_net.1,
-    c.requires.in_net.2 c.args.first.now.lists (subst (λ o. IsIn c.args.first.now.lists (pieces_given c.args.first.now.lists (option_copied o))) (sym c.in-None.is) (inl refl)),
+    c.requires.in_net.2 c.args.first.now.lists (subst (λ o. IsIn c.args.first.now.lists (lists_of (λ (s : Store). s.lists) c.args.first.now.lists (option_copied o))) (sym c.in-None.is) (inl refl)),
   );
 }
 
@@ -18,8 +19,8 @@ steps_in_order-requires c = record {
   in_net = (
     c.requires.in_net.0,
     c.requires.in_net.1,
-    c.requires.in_net.2 c.args.first.now.lists (subst (λ o. IsIn c.args.first.now.lists (pieces_given c.args.first.now.lists (option_copied o))) (sym c.in-Some.is) (inl refl)),
-    c.requires.in_net.2 c.in-Some.other.now.lists (subst (λ o. IsIn c.in-Some.other.now.lists (pieces_given c.args.first.now.lists (option_copied o))) (sym c.in-Some.is) (inr (inl refl))),
+    c.requires.in_net.2 c.args.first.now.lists (subst (λ o. IsIn c.args.first.now.lists (lists_of (λ (s : Store). s.lists) c.args.first.now.lists (option_copied o))) (sym c.in-Some.is) (inl refl)),
+    c.requires.in_net.2 c.in-Some.other.now.lists (subst (λ o. IsIn c.in-Some.other.now.lists (lists_of (λ (s : Store). s.lists) c.args.first.now.lists (option_copied o))) (sym c.in-Some.is) (inr (inl refl))),
   );
 }
 
