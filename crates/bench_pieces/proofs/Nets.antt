@@ -1,29 +1,36 @@
 -- The network of a shape is a valid one, and its piece lies in it.
-use Rattle.std.specs.Prelude.{◌≡◌, ◌⊎◌, ℕ, ◌+◌, ◌-◌, ◌<◌, ◌≤◌, List, [], ◌∷◌, length, map}
+use Rattle.std.specs.Prelude.{◌≡◌, ◌⊎◌, ℕ, ◌+◌, ◌-◌, ◌<◌, ◌≤◌, true, List, [], ◌∷◌, length, map}
 use Rattle.std.specs.List.{range_with_len}
 use Rattle.std.specs.List.Sorted.{IsStrictlyIncreasing}
-use Rattle.std.proofs.Common.{refl, sym, ap, ap₂, subst, ◌∙◌, inl, inr, arith}
+use Rattle.std.proofs.Common.{refl, sym, ap, ap₂, subst, ◌∙◌, inl, inr, arith, append-nil}
 use Rattle.std.proofs.lemmas.List.{length-map, length-append, get_or_append_left, get_or-append_right, get_or-map}
 use Rattle.std.proofs.lemmas.List.Elements.{All-from_get_or}
 use Rattle.std.proofs.lemmas.List.FromFn.{get_or-map-range_with_len, length-map-range_with_len}
-use Rattle.gain_graphs.specs.Arcs.{IsIn, Touches}
+use Rattle.gain_graphs.specs.Arcs.{IsIn, AreDistinct, Touches}
 use Rattle.gain_graphs.specs.QuasiTrees.{IsQuasiTree}
-use Rattle.gain_graphs.proofs.Lists.{in_map_of}
+use Rattle.gain_graphs.proofs.Lists.{in_map_of, in_front, in_append}
 use Rattle.np_frac.specs.Ratio.{Ratio, zero_ratio}
 use Rattle.np_model.specs.declared.arc.Ends.{Ends}
 use Rattle.np_model.specs.declared.arc.Ends.TheVariants.{Drain}
 use Rattle.np_model.specs.declared.arc.NetArc.{NetArc}
 use Rattle.np_model.specs.declared.log.Mark.{Mark}
-use Rattle.np_model.specs.declared.log.Mark.TheVariants.{Lower}
+use Rattle.np_model.specs.declared.log.Mark.TheVariants.{Lower, Upper, Basic}
 use Rattle.np_model.specs.declared.phase.Phase.TheVariants.{Two}
+use Rattle.np_model.specs.declared.piece.Direction.{Direction}
+use Rattle.np_model.specs.Network.Arcs.{IsWithin}
 use Rattle.np_model.specs.Network.Flows.{Network}
 use Rattle.np_model.specs.Network.Nets.{IsSoundArc, IsNet}
 use Rattle.np_model.specs.Basis.Artificial.{AreArtificial}
-use Rattle.np_model.specs.Basis.Graphs.{ratios, graph_ends, no_arc, ends_at}
+use Rattle.np_model.specs.Basis.Graphs.{ratios, graph_ends, no_arc, arc_at, ends_at}
 use Rattle.np_model.specs.Basis.Phases.{real_arc, artificial_arc}
-use Rattle.np_model.specs.Basis.Pieces.{PieceLists, HasShape, nodes_in, basics_in, ends_in, marked_in}
-use Rattle.np_model.specs.Basis.Sound.{IsInNet}
-use Rattle.np_basis.proofs.Ascending.{rises}
+use Rattle.np_model.specs.Basis.Pieces.{PieceLists, HasShape, nodes_in, basics_in, ends_in, marked_in, beside, nodes_of, basics_of}
+use Rattle.np_model.specs.Basis.States.{StandsAt}
+use Rattle.np_model.specs.Basis.Sound.{IsInNet, HoldEnds, bound_at, values_in}
+use Rattle.np_frac.proofs.RatioLaws.{≤ᵣ_refl}
+use Rattle.np_basis.specs.PivotLaws.{unit_of}
+use Rattle.tree_flows.specs.Answers.{CanEnter, IsAnswer}
+use Rattle.ratio_test.specs.Asked.{AreWithin, IsOutside, IsAlong}
+use Rattle.np_basis.proofs.Ascending.{ascends, ascends_once, rises}
 use Rattle.np_basis.proofs.Basics.{range_holds, range_within, range_ascends}
 use Rattle.quasi_tree.specs.Store.{IsHeld}
 use Rattle.bench_pieces.specs.declared.shape.Shape.{Shape}
@@ -164,6 +171,72 @@ module _ (shape : Shape) (n : ℕ) (some : 2 ≤ n) where
     where
       split : (a : ℕ) → (a < n) ⊎ (n ≤ a)
       split a = grind arith
+
+  -- ---- the last artificial arc enters
+
+  nodes_once : AreDistinct (nodes_of (full_piece shape n ∷ []))
+  nodes_once = subst AreDistinct (sym (append-nil (nodes_in (full_piece shape n)))) (ascends_once (nodes_in (full_piece shape n)) (ascends (nodes_in (full_piece shape n)) shape_is.nodes_ascend))
+
+  each_in_net : (p : PieceLists) → IsIn p (full_piece shape n ∷ []) → IsInNet (full_net shape n) p
+  each_in_net p = elim [ inl e ↦ subst (IsInNet (full_net shape n)) (sym e) in_net | inr z ↦ absurd z ]
+
+  last_ends : ends_at (full_net shape n).arcs (n + (n - 1)) ≡ Drain (n + (n - 1) - n)
+  last_ends = artificial_ends (n + (n - 1)) (omega arith) (omega (arith, some))
+
+  last_holds : HoldEnds (full_piece shape n ∷ []) (ends_at (full_net shape n).arcs (n + (n - 1)))
+  last_holds = subst (λ t. HoldEnds (full_piece shape n ∷ []) t) (sym last_ends)
+      (in_front (n + (n - 1) - n) (nodes_in (full_piece shape n)) [] (subst (λ t. IsIn (n + (n - 1) - n) t) (sym nodes_are) (below_holds n (n + (n - 1) - n) (omega (arith, some)))))
+
+  last_outside : ¬ IsIn (n + (n - 1)) (basics_of (full_piece shape n ∷ []))
+  last_outside i = let l = basic_below (n + (n - 1)) (elim (in_append (n + (n - 1)) (basics_in (full_piece shape n)) [] i) [ inl k ↦ k | inr z ↦ absurd z ]) in omega (arith, l, some)
+
+  pub can_enter : CanEnter (full_net shape n) (full_piece shape n ∷ []) (n + (n - 1))
+  can_enter = record { in_net = each_in_net; apart = nodes_once; inside = omega (arith, some, long_arcs); holds = last_holds; outside = last_outside }
+
+  real_is : (v : ℕ) → v < n → arc_at (full_net shape n).arcs v ≡ net_arc shape n v
+  real_is v l = get_or_append_left (map (real_arc Two) (net_arcs shape n)) (map (artificial_arc Two) (drains n)) no_arc v (omega (arith, l, long_real))
+      ∙ get_or-map (real_arc Two) (net_arcs shape n) v no_arc no_arc (omega (arith, l, length-map-range_with_len (net_arc shape n) 0 n))
+      ∙ get_or-map-range_with_len (net_arc shape n) 0 n v v no_arc l (omega arith)
+
+  pub are_within : AreWithin (full_net shape n) (full_piece shape n ∷ [])
+  are_within = record {
+    in_net = each_in_net;
+    apart = nodes_once;
+    within = λ p b i j.
+        let k : IsIn b (piece_basics shape n) = elim i [ inl e ↦ subst (λ (t : PieceLists). IsIn b t.basics) e j | inr z ↦ absurd z ] in
+        let r = in_map_of (λ (v : ℕ). (v, arc_ends shape n v, zero_ratio)) b (range_with_len 0 n) k in
+        let none : b.2 ≡ zero_ratio = ap (λ (x : ℕ × Ends × Ratio). x.2) r.2 in
+        subst (λ a. IsWithin a b.2) (sym (real_is b.0 (basic_is b k).0)) (subst (λ x. IsWithin (net_arc shape n b.0) x) (sym none) (≤ᵣ_refl zero_ratio, record {}));
+  }
+
+  artificial_is : (a : ℕ) → n ≤ a → a < n + n → arc_at (full_net shape n).arcs a ≡ artificial_arc Two (Drain (a - n))
+  artificial_is a low high = get_or-append_right (map (real_arc Two) (net_arcs shape n)) (map (artificial_arc Two) (drains n)) n a no_arc long_real low
+      ∙ get_or-map (artificial_arc Two) (drains n) (a - n) (Drain 0) no_arc (omega (arith, low, high, length-map-range_with_len Drain 0 n))
+      ∙ ap (artificial_arc Two) (get_or-map-range_with_len Drain 0 n (a - n) (a - n) (Drain 0) (omega (arith, low, high)) (omega arith))
+
+  at_bounds : (e : Ends) (m : Mark) → StandsAt (artificial_arc Two e) m (bound_at (artificial_arc Two e) m)
+  at_bounds e Lower = refl
+  at_bounds e Upper = refl
+  at_bounds e Basic = record {}
+
+  pub is_outside : (enter : ℕ) → enter ≡ n + (n - 1) → IsOutside (full_net shape n) (full_piece shape n ∷ []) enter
+  is_outside enter is = subst (IsOutside (full_net shape n) (full_piece shape n ∷ [])) (sym is) (record {
+    is_arc = omega (arith, some, long_arcs);
+    ends = last_holds;
+    not_basic = last_outside;
+    at_bound = let m = (values_in (full_net shape n) (full_piece shape n ∷ [])).mark (n + (n - 1)) in
+        subst (λ a. StandsAt a m (bound_at a m)) (sym (artificial_is (n + (n - 1)) (omega arith) (omega (arith, some)))) (at_bounds (Drain (n + (n - 1) - n)) m);
+  })
+
+-- a direction that was found is one to follow
+pub is_along : (net : Network) (pieces : List PieceLists) (enter : ℕ) (d : Direction) → IsAnswer net pieces enter true d → IsAlong pieces d
+is_along net pieces enter d a = record {
+  ascend = a.ascend;
+  not_zero = λ s i. (a.moves s i).1;
+  on_arcs = λ b i. let r = in_map_of (λ (s : ℕ × Ratio). s.0) b d.steps i in
+      elim (subst (λ x. IsIn x (enter ∷ basics_of pieces)) (sym r.2) (a.moves r.0 r.1).0) [ inl e ↦ inl (e ∙ sym a.enters) | inr k ↦ inr k ];
+  enters = ap (beside zero_ratio d.steps) a.enters ∙ a.balances.enters ∙ ap unit_of (sym a.goes);
+}
 
 -- ---- a piece with other potentials
 
