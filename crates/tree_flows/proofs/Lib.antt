@@ -18,3 +18,4 @@ mod Pulling
 mod Listing
 mod Together
 mod Answering
+mod FiveNodes

@@ -234,14 +234,14 @@ fn are_apart(gains: &Gains) -> bool
 
 // A full network, and a piece of it.
 #[derive(Drop)]
-struct Whole {
+struct FiveNodes {
     full: FullNet,
     piece: Quasi,
 }
 
 // Five nodes. Links lead from 0 to 1, from 2 to 1 and from 2 to 0, and are a cycle; from 3 to 1; and from 3 to 4. A sixth, which is not basic,
 // is like the fifth.
-fn five_nodes(alloc: Global, gains: &Gains) -> Result<Whole, Memory>
+fn five_nodes(alloc: Global, gains: &Gains) -> Result<FiveNodes, Memory>
     ensures parallel { IfOk result (λ made. (phase : ThePhase) → CanEnter (phase_net phase made.full) (made.piece.lists ∷ []) 5) }
     ensures drained { IfOk result (λ made. (phase : ThePhase) → CanEnter (phase_net phase made.full) (made.piece.lists ∷ []) 9) }
 {
@@ -279,7 +279,7 @@ fn five_nodes(alloc: Global, gains: &Gains) -> Result<Whole, Memory>
         artificial: EndsList { items: artificial },
     };
     let piece = Quasi::of_lists(links_piece(alloc, gains)?);
-    Ok(Whole { full, piece })
+    Ok(FiveNodes { full, piece })
 }
 
 // The piece of the first five links.
