@@ -19,3 +19,4 @@ mod Listing
 mod Together
 mod Answering
 mod FiveNodes
+mod TwoNodes
