@@ -1,7 +1,7 @@
 -- From the moving arcs to the direction that is answered.
-use Rattle.std.specs.Prelude.{◌≡◌, ◌≢◌, ◌⊎◌, ◌<◌, ℕ, Bool, true, false, List, [], ◌∷◌, ◌++◌, map, length, if◌then◌else◌, Option, Some, None, Result, Ok, Err, MatchResult, IfOk}
+use Rattle.std.specs.Prelude.{◌≡◌, ◌≢◌, ℕ, Bool, true, false, List, ◌∷◌, Result, Ok, Err, MatchResult}
 use Rattle.std.specs.List.Sorted.{IsPermutation, IsNonDecreasingBy, IsStrictlyIncreasing}
-use Rattle.std.proofs.Common.{refl, sym, ap, subst, ◌∙◌, inl, inr}
+use Rattle.std.proofs.Common.{refl, sym, ap, subst, ◌∙◌, inl}
 use Rattle.std.proofs.lemmas.List.Sorted.{IsPermutation-sym}
 use Rattle.gain_graphs.specs.Arcs.{IsIn}
 use Rattle.gain_graphs.proofs.Algebra as algebra
@@ -14,7 +14,6 @@ use Rattle.np_model.specs.declared.rows.Row.{Row}
 use Rattle.np_model.specs.Network.Flows.{Network}
 use Rattle.np_model.specs.Basis.Graphs.{ratios, ends_at}
 use Rattle.np_model.specs.Basis.Pieces.{PieceLists, basics_in, basics_of, beside}
-use Rattle.np_model.specs.Basis.Moves.{IsDirection}
 use Rattle.np_model.specs.Rows.Directions.{DirectionFits}
 use Rattle.np_basis.specs.Laws.{HasSoundArcs}
 use Rattle.tree_flows.specs.declared.refusal.DirRefusal.{DirRefusal}

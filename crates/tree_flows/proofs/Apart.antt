@@ -1,8 +1,8 @@
 -- Where no operation of the rows of directions overflows, none that is reached does.
-use Rattle.std.specs.Prelude.{◌≡◌, ◌≢◌, ◌⊎◌, ◌<◌, ℕ, List, [], ◌∷◌, ◌++◌, length, Result, Ok, Err}
+use Rattle.std.specs.Prelude.{◌≡◌, ◌<◌, ℕ, List, [], ◌∷◌, ◌++◌, length, Ok, Err}
 use Rattle.std.specs.Result.{IsOk}
 use Rattle.std.proofs.Common.{refl, sym, ap, subst, ◌∙◌, inl, inr}
-use Rattle.gain_graphs.specs.Arcs.{IsIn, Touches}
+use Rattle.gain_graphs.specs.Arcs.{IsIn}
 use Rattle.gain_graphs.specs.Cycles.{Joins, IsWay, nodes_along, last_arc}
 use Rattle.gain_graphs.specs.QuasiTrees.{LiesIn}
 use Rattle.gain_graphs.proofs.Lists.{length_map}

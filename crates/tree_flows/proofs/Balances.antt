@@ -1,37 +1,32 @@
 -- At each node of a piece the terms of a direction add up to 0.
-use Rattle.std.specs.Prelude.{◌≡◌, ◌≢◌, ◌⊎◌, ◌<◌, ℕ, List, [], ◌∷◌, ◌++◌, map, length, slice_index_or, Result, Ok}
-use Rattle.std.proofs.Common.{refl, sym, ap, ap₂, subst, ◌∙◌, inl, inr}
+use Rattle.std.specs.Prelude.{◌≡◌, ◌≢◌, ◌⊎◌, ◌<◌, ℕ, List, [], ◌∷◌, ◌++◌, map, length, slice_index_or, Ok}
+use Rattle.std.proofs.Common.{refl, sym, ap, subst, ◌∙◌, inl, inr}
 use Rattle.gain_graphs.specs.Field as field
-use Rattle.gain_graphs.specs.Arcs as graph
 use Rattle.gain_graphs.specs.Arcs.{IsIn, AreDistinct, Touches}
 use Rattle.gain_graphs.specs.Cycles.{Joins, IsNoLoop, IsWay, arcs_along, nodes_along}
 use Rattle.gain_graphs.proofs.Lists.{in_front, in_back, in_append, distinct_append}
 use Rattle.gain_graphs.proofs.Pieces as graph_pieces
 use Rattle.gain_graphs.proofs.Sums as sums
 use Rattle.gain_graphs.proofs.Ways as ways
-use Rattle.np_frac.specs.Ratio as ratio
 use Rattle.np_frac.specs.Ratio.{Ratio, zero_ratio, ◌+ᵣ◌, ◌*ᵣ◌}
 use Rattle.np_frac.specs.Exact.{◌▷◌}
 use Rattle.np_frac.proofs.Exactness.{found_by}
 use Rattle.np_frac.proofs.RatioLaws.{+ᵣ_comm, +ᵣ-zero, zero-+ᵣ, zero-*ᵣ}
 use Rattle.np_model.specs.declared.arc.Ends.{Ends}
 use Rattle.np_model.specs.Network.Arcs.{coefficient}
-use Rattle.np_model.specs.Network.Flows.{at}
 use Rattle.np_model.specs.Basis.Artificial.{IsOneEndAt}
 use Rattle.np_model.specs.Basis.Graphs.{ratios, graph_ends, graph_of, no_arc}
-use Rattle.np_model.specs.Basis.Moves.{balance_on}
-use Rattle.np_model.specs.Rows.Directions.{turned, sum_at, IsAddedAt, AreAddedAt}
-use Rattle.np_model.specs.Rows.Extra.{Extra, OneEnd, Round, extra_arcs, extra_nodes, IsExtra, Hangs}
+use Rattle.np_model.specs.Rows.Directions.{turned, sum_at, AreAddedAt}
+use Rattle.np_model.specs.Rows.Extra.{Extra, OneEnd, Round, extra_arcs, extra_nodes, IsExtra}
 use Rattle.np_basis.proofs.Ascending.{ascends, ascends_once}
 use Rattle.np_basis.proofs.Trees as trees
 use Rattle.tree_search.specs.declared.piece.Step.{Step}
 use Rattle.tree_search.specs.declared.piece.Joint.{Joint}
 use Rattle.tree_search.specs.Places.{loose}
 use Rattle.tree_search.specs.Search.{JoinsAt, GoesOn}
-use Rattle.tree_flows.proofs.Coefficients.{K, taken, sum_exact, turned_exact, only_one, K_not_zero, joins_touches, touches_joins, end_not_joins, end_same, end_touches}
+use Rattle.tree_flows.proofs.Coefficients.{K, taken, sum_exact, turned_exact, only_one, K_not_zero, joins_touches, touches_joins, end_not_joins, end_same}
 use Rattle.tree_flows.proofs.Scenes as scenes
 use Rattle.tree_flows.proofs.Scenes.{Scene}
-use Rattle.tree_flows.proofs.Adding as adding
 
 -- ---- steps one after the other
 

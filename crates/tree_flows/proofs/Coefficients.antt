@@ -1,6 +1,6 @@
 -- The terms of the rows of directions are incidence coefficients times amounts.
-use Rattle.std.specs.Prelude.{◌≡◌, ◌≢◌, ◌⊎◌, ℕ, nat_eq, cond, Bool, true, false, List, [], ◌∷◌, ◌++◌, Result, Ok, Err, if◌then◌else◌, ◌||◌}
-use Rattle.std.proofs.Common.{refl, sym, ap, ap₂, subst, ◌∙◌, inl, inr, eqb-true, eq-eqb, true≢false}
+use Rattle.std.specs.Prelude.{◌≡◌, ◌≢◌, ◌⊎◌, ℕ, nat_eq, Bool, true, false, List, [], ◌∷◌, Result, Ok, if◌then◌else◌, ◌||◌}
+use Rattle.std.proofs.Common.{refl, sym, ap, ap₂, ◌∙◌, inl, inr, eqb-true, eq-eqb, true≢false}
 use Rattle.gain_graphs.specs.Field as field
 use Rattle.gain_graphs.specs.Arcs as graph
 use Rattle.gain_graphs.specs.Arcs.{IsIn, Touches}
@@ -12,8 +12,8 @@ use Rattle.np_frac.specs.Ratio.{Ratio, zero_ratio, one_ratio, negated, inverse, 
 use Rattle.np_frac.specs.Exact.{plus_of, minus_of, times_of, over_of, ◌▷◌}
 use Rattle.np_frac.specs.declared.frac.Past.{Past}
 use Rattle.np_frac.proofs.Exactness.{plus_exact, minus_exact, times_exact, over_exact, found_by}
-use Rattle.np_frac.proofs.RatioLaws.{+ᵣ_assoc, +ᵣ_comm, +ᵣ-zero, zero-+ᵣ, *ᵣ_assoc, *ᵣ_comm, one-*ᵣ, negated-*ᵣ}
-use Rattle.np_frac.proofs.Field.{+ᵣ-negated, *ᵣ-one, *ᵣ-inverse, one-zero}
+use Rattle.np_frac.proofs.RatioLaws.{+ᵣ_assoc, +ᵣ-zero, zero-+ᵣ, *ᵣ_assoc, *ᵣ_comm, one-*ᵣ, negated-*ᵣ}
+use Rattle.np_frac.proofs.Field.{+ᵣ-negated, *ᵣ-inverse, one-zero}
 use Rattle.np_model.specs.declared.arc.Ends.{Ends}
 use Rattle.np_model.specs.declared.arc.Ends.TheVariants.{Link, Drain, Feed}
 use Rattle.np_model.specs.Basis.Artificial.{IsOneEndAt}

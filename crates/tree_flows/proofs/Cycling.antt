@@ -1,13 +1,12 @@
 -- The amounts on the arcs of a cycle.
-use Rattle.std.specs.Prelude.{Vec, ◌≡◌, ◌≢◌, ◌⊎◌, ◌<◌, ℕ, zero, suc, nat_eq, cond, Bool, true, false, List, [], ◌∷◌, ◌++◌, length, drop, slice_index, slice_index_or, slice_set, if◌then◌else◌, Result, Ok, Err, MatchResult, pos}
-use Rattle.std.specs.Global.{Global}
+use Rattle.std.specs.Prelude.{◌≡◌, ◌≢◌, ◌⊎◌, ◌<◌, ℕ, zero, suc, nat_eq, Bool, true, false, List, [], ◌∷◌, ◌++◌, length, slice_index, slice_set, if◌then◌else◌, Result, Ok, Err, MatchResult}
 use Rattle.std.specs.List.{All}
 use Rattle.std.specs.Result.{IsOk}
 use Rattle.std.proofs.Common.{refl, sym, ap, ap₂, subst, ◌∙◌, inl, inr, arith, eqb-true, eq-eqb, true≢false, lt_irrefl}
 use Rattle.std.proofs.lemmas.List.{get_or-set_same, get_or-set_other, length-set}
 use Rattle.gain_graphs.specs.Field as field
-use Rattle.gain_graphs.specs.Arcs.{IsIn, AreDistinct, Touches}
-use Rattle.gain_graphs.specs.Cycles.{Joins, IsNoLoop, IsWay, IsLeastFirst, arcs_along, nodes_along, last_arc}
+use Rattle.gain_graphs.specs.Arcs.{IsIn, Touches}
+use Rattle.gain_graphs.specs.Cycles.{Joins, IsWay, IsLeastFirst, arcs_along, nodes_along}
 use Rattle.gain_graphs.proofs.Lists.{decide_in}
 use Rattle.gain_graphs.proofs.Pieces as graph_pieces
 use Rattle.gain_graphs.proofs.Sums as graph_sums
@@ -18,7 +17,6 @@ use Rattle.np_frac.specs.Order.{tests_true, true_tests}
 use Rattle.np_frac.specs.Exact.{plus_of, over_of, ◌▷◌}
 use Rattle.np_frac.specs.declared.frac.Past.{Past}
 use Rattle.np_frac.proofs.Exactness.{plus_exact, found_by}
-use Rattle.np_frac.proofs.Field.{same_or}
 use Rattle.np_frac.proofs.RatioLaws.{+ᵣ_assoc, +ᵣ_comm, +ᵣ-zero, zero-+ᵣ, *ᵣ-zero, zero-*ᵣ, one-*ᵣ}
 use Rattle.np_model.specs.declared.arc.Ends.{Ends}
 use Rattle.np_model.specs.declared.rows.Row.TheVariants.{A3, A4}
@@ -29,25 +27,23 @@ use Rattle.np_model.specs.Basis.Graphs.{ratios, graph_of}
 use Rattle.np_model.specs.Basis.Pieces.{nodes_in}
 use Rattle.np_model.specs.Rows.Directions as rows
 use Rattle.np_model.specs.Rows.Directions.{term, with_first, sum_at, HasSum, IsTouched, Gives, FitsRows, FitsExtra}
-use Rattle.np_model.specs.Rows.Extra.{Extra, OneEnd, Round, extra_arcs, extra_nodes, IsExtra}
+use Rattle.np_model.specs.Rows.Extra.{Round, extra_arcs, extra_nodes, IsExtra}
 use Rattle.np_basis.proofs.Divisors.{directions_divisor}
 use Rattle.np_basis.proofs.Trees as trees
 use Rattle.tree_search.specs.declared.piece.Step.{Step}
-use Rattle.tree_search.specs.declared.piece.ExtraArc.{ExtraArc}
-use Rattle.tree_search.specs.declared.piece.ExtraArc.TheVariants as found
 use Rattle.tree_search.specs.Places.{number_by_place, ends_by_place}
-use Rattle.tree_search.specs.Finding.{as_extra, first_node, way_of, IsLaidOut, IsPlaced}
+use Rattle.tree_search.specs.Finding.{way_of}
 use Rattle.tree_flows.specs.Along.{IsWithin, is_zero, are_zero, sum_of, gather_sums, last_of, amount_behind, share_behind, divisor_of, closing_of, mix_after, mix_all, mix_of, turn_round, overflow_at, in_row, ◌▸◌}
-use Rattle.tree_flows.specs.Walks.{first_of, rest_of, close_round}
-use Rattle.tree_flows.proofs.Coefficients.{K, taken, sum_exact, first_exact, term_exact, joins_touches, touches_joins, end_not_joins, ok_same}
-use Rattle.tree_flows.proofs.Results.{is_ok_of, ok_is, same_ok, refused_by}
+use Rattle.tree_flows.specs.Walks.{close_round}
+use Rattle.tree_flows.proofs.Coefficients.{K, taken, sum_exact, first_exact, term_exact, joins_touches, touches_joins, end_not_joins}
+use Rattle.tree_flows.proofs.Results.{is_ok_of}
 use Rattle.tree_flows.proofs.Scenes as scenes
 use Rattle.tree_flows.proofs.Scenes.{Scene}
 use Rattle.tree_flows.proofs.Adding as adding
 use Rattle.tree_flows.proofs.Balances as balances
 use Rattle.tree_flows.proofs.Inward as inward
 use Rattle.tree_flows.proofs.Ending as ending
-use Rattle.tree_flows.proofs.Following.{Follow, follow_node, not_last, two, follow_arcs, follow_apart, last_in}
+use Rattle.tree_flows.proofs.Following.{Follow, not_last, two, follow_arcs, follow_apart}
 use Rattle.tree_flows.proofs.Mixing as mixing
 
 -- ---- a way by places and by numbers
@@ -97,7 +93,7 @@ module _ (nodes : List ℕ) (basics : List (ℕ × Ends × Ratio)) where
       let p : (number_by_place basics z.arc, slice_index nodes z.far) ≡ y = cc in
       let f : before ++ after ≡ way l = cc in
       let r = split_way l before after f in
-      (z ∷ r.0, r.1, ap (λ t. z ∷ t) r.2, ap₂ (λ t w. t ∷ w) p r.3)
+      (z ∷ r.0, r.1, ap (λ t. z ∷ t) {x = r.0 ++ r.1} r.2, ap₂ (λ t w. t ∷ w) p r.3)
 
 -- ---- which sums are 0
 

@@ -1,26 +1,21 @@
 -- The amount on an extra arc with one end.
-use Rattle.std.specs.Prelude.{◌≡◌, ◌≢◌, ◌⊎◌, ◌<◌, ℕ, List, [], ◌∷◌, length, slice_index, slice_index_or, slice_set, Result, Ok, Err, MatchResult}
-use Rattle.std.specs.Result.{IsOk}
-use Rattle.std.proofs.Common.{refl, sym, ap, ap₂, subst, ◌∙◌, inl, inr, arith}
+use Rattle.std.specs.Prelude.{◌≡◌, ◌≢◌, ◌<◌, ℕ, List, [], ◌∷◌, length, slice_index_or, slice_set, Result, Ok, Err, MatchResult}
+use Rattle.std.proofs.Common.{refl, sym, ap, ap₂, subst, ◌∙◌, inl, inr}
 use Rattle.std.proofs.lemmas.List.{get_or-set_same, get_or-set_other, length-set}
-use Rattle.gain_graphs.specs.Arcs.{IsIn, Touches}
+use Rattle.gain_graphs.specs.Arcs.{IsIn}
 use Rattle.gain_graphs.proofs.Lists.{length_map}
 use Rattle.np_frac.specs.Ratio.{Ratio, zero_ratio, ◌+ᵣ◌, ◌*ᵣ◌}
 use Rattle.np_frac.specs.Exact.{◌▷◌}
 use Rattle.np_frac.specs.declared.frac.Past.{Past}
-use Rattle.np_frac.proofs.Exactness.{found_by}
 use Rattle.np_frac.proofs.RatioLaws.{zero-+ᵣ}
 use Rattle.np_model.specs.declared.arc.Ends.{Ends}
 use Rattle.np_model.specs.declared.arc.Ends.TheVariants.{Link, Drain, Feed}
 use Rattle.np_model.specs.Network.Flows.{at}
 use Rattle.np_model.specs.Basis.Artificial.{IsOneEndAt}
-use Rattle.np_model.specs.Basis.Graphs.{graph_of}
 use Rattle.np_model.specs.Basis.Pieces.{nodes_in}
-use Rattle.np_model.specs.Rows.Directions as rows
 use Rattle.np_model.specs.Rows.Directions.{turned, sum_at, FitsRows, FitsExtra}
-use Rattle.np_model.specs.Rows.Extra.{Extra, OneEnd, Round, extra_arcs, extra_nodes, IsExtra}
+use Rattle.np_model.specs.Rows.Extra.{OneEnd, extra_arcs, extra_nodes, IsExtra}
 use Rattle.tree_search.specs.declared.piece.Step.{Step}
-use Rattle.tree_search.specs.declared.piece.ExtraArc.{ExtraArc}
 use Rattle.tree_search.specs.declared.piece.ExtraArc.TheVariants as found
 use Rattle.tree_search.specs.Places.{loose, ends_by_place}
 use Rattle.tree_search.specs.Finding.{as_extra, IsLaidOut}
@@ -28,7 +23,7 @@ use Rattle.tree_search.proofs.Placed as placed
 use Rattle.tree_flows.specs.Along.{sum_of}
 use Rattle.tree_flows.specs.Walks.{close_end}
 use Rattle.tree_flows.proofs.Coefficients.{K, taken, sum_exact, turned_exact, only_one, K_not_zero, end_touches}
-use Rattle.tree_flows.proofs.Results.{is_ok_of, same_ok}
+use Rattle.tree_flows.proofs.Results.{is_ok_of}
 use Rattle.tree_flows.proofs.Scenes as scenes
 use Rattle.tree_flows.proofs.Scenes.{Scene}
 use Rattle.tree_flows.proofs.Adding as adding

@@ -1,5 +1,5 @@
 -- Amounts gathered inwards are those of the direction, or an operation that is reached overflows.
-use Rattle.std.specs.Prelude.{◌≡◌, ◌≢◌, ◌⊎◌, ◌<◌, ℕ, Bool, true, false, List, [], ◌∷◌, ◌++◌, length, reverse, slice_index_or, slice_set, Result, Ok, Err, MatchResult}
+use Rattle.std.specs.Prelude.{◌≡◌, ◌≢◌, ◌⊎◌, ◌<◌, ℕ, List, [], ◌∷◌, ◌++◌, length, reverse, slice_index_or, slice_set, Result, Ok, Err, MatchResult}
 use Rattle.std.specs.Result.{IsOk}
 use Rattle.std.proofs.Common.{refl, sym, ap, ap₂, subst, ◌∙◌, inl, inr, arith, true≢false, append_assoc, append-nil}
 use Rattle.std.proofs.lemmas.List.{get_or-set_same, get_or-set_other, length-set}
@@ -17,13 +17,12 @@ use Rattle.np_model.specs.Rows.Directions as rows
 use Rattle.np_model.specs.Rows.Directions.{turned, sum_at, AreAddedAt, Settled, Gives}
 use Rattle.np_basis.proofs.Ascending.{same_rising}
 use Rattle.tree_search.specs.declared.piece.Step.{Step}
-use Rattle.tree_search.specs.declared.piece.Joint.{Joint}
 use Rattle.tree_search.specs.Places.{loose}
 use Rattle.tree_search.specs.Search.{GoesOn}
 use Rattle.tree_search.specs.Finding.{starts_of}
 use Rattle.tree_search.specs.Outwards.{IsStepOver}
 use Rattle.tree_flows.specs.Along.{IsWithin, gather, amount_of}
-use Rattle.tree_flows.proofs.Results.{is_ok_of, same_ok}
+use Rattle.tree_flows.proofs.Results.{is_ok_of}
 use Rattle.tree_flows.proofs.Scenes as scenes
 use Rattle.tree_flows.proofs.Scenes.{Scene}
 use Rattle.tree_flows.proofs.Adding as adding

@@ -1,19 +1,18 @@
 -- The arcs whose flows change, as a list in ascending order.
-use Rattle.std.specs.Prelude.{◌≡◌, ◌≢◌, ◌⊎◌, ◌<◌, ◌≤◌, ◌+◌, ℕ, nat_eq, zero, suc, Bool, true, false, List, [], ◌∷◌, ◌++◌, map, length, slice_index_or, if◌then◌else◌}
+use Rattle.std.specs.Prelude.{◌≡◌, ◌≢◌, ◌⊎◌, ◌<◌, ◌≤◌, ℕ, nat_eq, zero, suc, Bool, true, false, List, [], ◌∷◌, ◌++◌, map, length, if◌then◌else◌}
 use Rattle.std.specs.List.{All}
 use Rattle.std.specs.List.Sorted.{IsPermutation, IsNonDecreasing, IsNonDecreasingBy, IsStrictlyIncreasing}
 use Rattle.std.proofs.Common.{refl, sym, ap, ap₂, subst, ◌∙◌, inl, inr, arith, eqb-true, eq-eqb, eqb, true≢false, get_or}
 use Rattle.std.proofs.lemmas.List.{get_or-map}
-use Rattle.std.proofs.lemmas.List.Sorted.{All-permutation, IsPermutation-sym, IsPermutation-map}
+use Rattle.std.proofs.lemmas.List.Sorted.{All-permutation, IsPermutation-map}
 use Rattle.std.proofs.lemmas.Map.Keys.{IsDistinct-from_apart, IsDistinct-IsPermutation, IsStrictlyIncreasing-from_distinct}
 use Rattle.gain_graphs.specs.Arcs.{IsIn, AreDistinct}
-use Rattle.gain_graphs.proofs.Lists.{in_front, in_back, in_append, in_map, in_map_of, length_map, map_append, distinct_append, apart_parts, once_left, once_right}
+use Rattle.gain_graphs.proofs.Lists.{in_front, in_back, in_append, in_map_of, length_map, map_append, distinct_append, apart_parts}
 use Rattle.np_frac.specs.Ratio.{Ratio, zero_ratio}
-use Rattle.np_frac.specs.Fits.{Fits}
 use Rattle.np_frac.proofs.Field.{same_or}
 use Rattle.np_model.specs.declared.arc.Ends.{Ends}
 use Rattle.np_model.specs.Network.Flows.{at}
-use Rattle.np_model.specs.Basis.Pieces.{PieceLists, basics_in, basics_of, beside}
+use Rattle.np_model.specs.Basis.Pieces.{beside}
 use Rattle.tree_search.specs.Places.{numbers_of_arcs, number_by_place}
 use Rattle.tree_flows.specs.Along.{is_zero}
 use Rattle.tree_flows.specs.Answers.{moving, AreMoving}

@@ -1,26 +1,25 @@
 -- What goes round a cycle, step by step.
-use Rattle.std.specs.Prelude.{◌≡◌, ◌≢◌, ◌⊎◌, ◌<◌, ℕ, zero, suc, nat_eq, Bool, true, false, List, [], ◌∷◌, ◌++◌, length, slice_index, slice_index_or, slice_set, if◌then◌else◌, Result, Ok, Err, MatchResult, ⊤}
+use Rattle.std.specs.Prelude.{◌≡◌, ◌≢◌, ◌<◌, ℕ, List, [], ◌∷◌, ◌++◌, length, slice_index, slice_set, Result, Ok, Err, MatchResult, ⊤}
 use Rattle.std.specs.Result.{IsOk}
-use Rattle.std.proofs.Common.{refl, sym, ap, ap₂, subst, ◌∙◌, inl, inr, arith, eqb-true, eq-eqb, true≢false}
+use Rattle.std.proofs.Common.{refl, sym, ap, ap₂, subst, ◌∙◌, inl, inr}
 use Rattle.std.proofs.lemmas.List.{get_or-set_same, get_or-set_other, length-set}
 use Rattle.gain_graphs.specs.Arcs.{IsIn, AreDistinct, Touches}
-use Rattle.gain_graphs.specs.Cycles.{Joins, IsNoLoop, IsWay, arcs_along, nodes_along, last_arc}
-use Rattle.gain_graphs.proofs.Algebra as algebra
+use Rattle.gain_graphs.specs.Cycles.{Joins, IsNoLoop, arcs_along, last_arc}
 use Rattle.np_frac.specs.Ratio.{Ratio, zero_ratio, one_ratio, negated, inverse, ◌+ᵣ◌, ◌*ᵣ◌}
 use Rattle.np_frac.specs.Exact.{plus_of, times_of, over_of, ◌▷◌}
 use Rattle.np_frac.specs.declared.frac.Past.{Past}
 use Rattle.np_frac.proofs.Exactness.{plus_exact, times_exact, over_exact, found_by}
-use Rattle.np_frac.proofs.RatioLaws.{+ᵣ_assoc, +ᵣ_comm, +ᵣ-zero, zero-+ᵣ, *ᵣ_assoc, *ᵣ_comm, *ᵣ-+ᵣ, *ᵣ-zero, one-*ᵣ, along_step}
-use Rattle.np_frac.proofs.Field.{+ᵣ-negated, *ᵣ-one, *ᵣ-inverse}
+use Rattle.np_frac.proofs.RatioLaws.{+ᵣ_assoc, zero-+ᵣ, *ᵣ_assoc, *ᵣ_comm, *ᵣ-+ᵣ, *ᵣ-zero, one-*ᵣ, along_step}
+use Rattle.np_frac.proofs.Field.{+ᵣ-negated, *ᵣ-inverse}
 use Rattle.np_model.specs.declared.arc.Ends.{Ends}
 use Rattle.np_model.specs.Network.Flows.{at}
-use Rattle.np_model.specs.Basis.Graphs.{ratios, graph_of}
+use Rattle.np_model.specs.Basis.Graphs.{graph_of}
 use Rattle.np_model.specs.Rows.Directions as rows
 use Rattle.np_model.specs.Rows.Directions.{term, turned, with_first, mixed}
 use Rattle.tree_search.specs.declared.piece.Step.{Step}
 use Rattle.tree_search.specs.Places.{numbers_of_nodes, number_by_place, ends_by_place}
 use Rattle.tree_search.specs.Finding.{way_of}
-use Rattle.tree_flows.specs.Along.{IsWithin, next_amount, next_share, amount_behind, share_behind, last_of, end_term, divisor_of, closing_of, mix_after}
+use Rattle.tree_flows.specs.Along.{next_amount, next_share, amount_behind, share_behind, last_of, end_term, divisor_of, closing_of, mix_after}
 use Rattle.tree_flows.proofs.Coefficients.{K, HasRatio, only_one, ok_same, term_exact, turned_exact, K_not_zero, joins_touches}
 use Rattle.tree_flows.proofs.Results.{is_ok_of, same_when, then_then}
 

@@ -1,8 +1,7 @@
 -- What the calls on a piece of a network need.
-use Rattle.std.specs.Prelude.{Vec, ◌≡◌, ◌≢◌, ◌<◌, ℕ, zero, suc, List, [], ◌∷◌, length, drop, slice_index, slice_index_or, Result, Ok, pos}
-use Rattle.std.specs.Global.{Global}
+use Rattle.std.specs.Prelude.{◌≡◌, ◌≢◌, ◌<◌, ℕ, zero, suc, List, [], ◌∷◌, length, slice_index, slice_index_or, Ok, pos}
 use Rattle.std.specs.List.{All}
-use Rattle.std.proofs.Common.{refl, sym, ap, subst, ◌∙◌, inl, inr, arith}
+use Rattle.std.proofs.Common.{refl, sym, subst, ◌∙◌, inl, inr, arith}
 use Rattle.gain_graphs.specs.Arcs.{IsIn}
 use Rattle.gain_graphs.specs.Cycles.{IsNoLoop, IsWay}
 use Rattle.gain_graphs.specs.QuasiTrees.{LiesIn}
@@ -26,7 +25,7 @@ use Rattle.tree_search.specs.declared.piece.Joint.{Joint}
 use Rattle.tree_search.specs.declared.piece.ExtraArc.{ExtraArc}
 use Rattle.tree_search.specs.declared.piece.ExtraArc.TheVariants as found
 use Rattle.tree_search.specs.declared.search.Search.{Search}
-use Rattle.tree_search.specs.Places.{loose, number_by_place, ends_by_place, blank, AreEndsOf, AreJoints, IsTree}
+use Rattle.tree_search.specs.Places.{loose, number_by_place, AreEndsOf, AreJoints, IsTree}
 use Rattle.tree_search.specs.Search.{IsSearch}
 use Rattle.tree_search.specs.Finding.{first_node, way_of, starts_of, IsFound, IsPlaced}
 use Rattle.tree_search.proofs.Placed.{joints_below, placed}

@@ -1,12 +1,10 @@
 -- A direction on pieces of a network is one on each of them; and there is one.
-use Rattle.std.specs.Prelude.{◌≡◌, ◌≢◌, ◌⊎◌, ◌<◌, ℕ, nat_eq, Bool, true, false, List, [], ◌∷◌, ◌++◌, map, length, if◌then◌else◌}
-use Rattle.std.specs.List.{flat_map}
-use Rattle.std.proofs.Common.{refl, sym, ap, ap₂, subst, ◌∙◌, inl, inr, eqb-true, eq-eqb, true≢false}
+use Rattle.std.specs.Prelude.{◌≡◌, ◌≢◌, ◌⊎◌, ◌<◌, ℕ, nat_eq, Bool, true, false, List, [], ◌∷◌, map, length, if◌then◌else◌}
+use Rattle.std.proofs.Common.{refl, sym, ap, ap₂, subst, ◌∙◌, inl, inr, eqb-true, eq-eqb}
 use Rattle.gain_graphs.specs.Field as field
 use Rattle.gain_graphs.specs.Arcs.{IsIn, AreDistinct, Touches}
 use Rattle.gain_graphs.specs.QuasiTrees.{LiesIn}
-use Rattle.gain_graphs.proofs.Algebra as algebra
-use Rattle.gain_graphs.proofs.Lists.{in_front, in_back, in_append, distinct_append, apart_parts, once_left, once_right, decide_in}
+use Rattle.gain_graphs.proofs.Lists.{in_front, in_back, in_append, distinct_append, apart_parts, once_right, decide_in}
 use Rattle.gain_graphs.proofs.Pieces as graph_pieces
 use Rattle.gain_graphs.proofs.Sums as sums
 use Rattle.gain_graphs.proofs.Theorems as theorems
@@ -20,7 +18,7 @@ use Rattle.np_model.specs.Network.Flows.{Network}
 use Rattle.np_model.specs.Basis.Graphs.{ratios, graph_ends, graph_of, no_arc, ends_at}
 use Rattle.np_model.specs.Basis.Pieces.{PieceLists, nodes_in, basics_in, nodes_of, basics_of}
 use Rattle.np_model.specs.Basis.Sound.{IsInNet}
-use Rattle.np_model.specs.Basis.Moves.{IsDirection, balance_on}
+use Rattle.np_model.specs.Basis.Moves.{balance_on}
 use Rattle.np_basis.specs.Laws.{HasSoundArcs}
 use Rattle.np_basis.proofs.Ascending.{ascends, ascends_once}
 use Rattle.np_basis.proofs.Extras.{links_are_no_loops}
@@ -222,13 +220,16 @@ module _ (net : Network) (sound : HasSoundArcs net) where
           go false e = refl
 
       pub direction_exists : (d : ℕ → Ratio) × IsDirectionOf net pieces enter amount d
-      direction_exists = (whole, record {
-        enters = whole_here enter refl;
-        only = λ a i _. i;
-        balanced = λ v i.
-            balance_is numbers numbers_below whole v
-            ∙ ap₂ (λ x y. K (E enter) v *ᵣ x +ᵣ y) (whole_here enter refl)
-            (sums.total_same ratios (λ a. K (E a) v *ᵣ whole a) (λ a. K (E a) v *ᵣ together pieces can.in_net a) (basics_of pieces) (λ a k. ap (λ t. K (E a) v *ᵣ t) (whole_there a k))
-            ∙ balances pieces can.in_net can.apart v i)
-            ∙ +ᵣ-negated (K (E enter) v *ᵣ amount);
-      })
+      direction_exists = (
+        whole,
+        record {
+          enters = whole_here enter refl;
+          only = λ a i _. i;
+          balanced = λ v i.
+              balance_is numbers numbers_below whole v
+              ∙ ap₂ (λ x y. K (E enter) v *ᵣ x +ᵣ y) (whole_here enter refl)
+              (sums.total_same ratios (λ a. K (E a) v *ᵣ whole a) (λ a. K (E a) v *ᵣ together pieces can.in_net a) (basics_of pieces) (λ a k. ap (λ t. K (E a) v *ᵣ t) (whole_there a k))
+              ∙ balances pieces can.in_net can.apart v i)
+              ∙ +ᵣ-negated (K (E enter) v *ᵣ amount);
+        },
+      )

@@ -1,13 +1,9 @@
 -- Answers of operations, one after the other.
-use Rattle.std.specs.Prelude.{◌≡◌, ◌⊎◌, ◌↔◌, ℕ, List, [], ◌∷◌, Result, Ok, Err, MatchResult}
+use Rattle.std.specs.Prelude.{◌≡◌, ◌⊎◌, Result, Ok, Err}
 use Rattle.std.specs.Result.{IsOk}
-use Rattle.std.proofs.Common.{refl, sym, ap, ◌∙◌, inl, inr, true≢false}
-use Rattle.gain_graphs.specs.Arcs.{IsIn}
+use Rattle.std.proofs.Common.{refl, sym, ◌∙◌, inl, inr, true≢false}
 use Rattle.np_frac.specs.declared.frac.Past.{Past}
 use Rattle.np_frac.specs.Exact.{◌▷◌}
-use Rattle.np_model.specs.declared.rows.Row.{Row}
-use Rattle.np_model.specs.declared.rows.Overflow.{Overflow}
-use Rattle.tree_flows.specs.Along.{overflow_at, in_row, ◌▸◌}
 
 pub is_ok_of : {A E : Type 0} (r : Result A E) (x : A) → r ≡ Ok x → IsOk r
 is_ok_of (Ok y) x e = refl

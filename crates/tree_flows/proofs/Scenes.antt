@@ -1,20 +1,17 @@
 -- A piece laid out for an arc that enters, with a direction of that.
-use Rattle.std.specs.Prelude.{◌≡◌, ◌≢◌, ◌⊎◌, ◌↔◌, ◌<◌, ◌≤◌, ℕ, nat_eq, zero, suc, Bool, true, false, List, [], ◌∷◌, ◌++◌, length, slice_index, slice_index_or, if◌then◌else◌}
-use Rattle.std.proofs.Common.{refl, sym, ap, ap₂, subst, ◌∙◌, inl, inr, arith, eqb-true, eq-eqb, get_or}
-use Rattle.gain_graphs.specs.Field as field
-use Rattle.gain_graphs.specs.Arcs as graph
-use Rattle.gain_graphs.specs.Arcs.{IsIn, AreDistinct, Touches}
-use Rattle.gain_graphs.specs.Cycles.{Joins, IsNoLoop}
+use Rattle.std.specs.Prelude.{◌≡◌, ◌⊎◌, ◌↔◌, ◌<◌, ℕ, nat_eq, zero, suc, Bool, true, false, List, [], ◌∷◌, length, slice_index, slice_index_or, if◌then◌else◌}
+use Rattle.std.proofs.Common.{refl, sym, ap, subst, ◌∙◌, inl, inr, arith, eqb-true, eq-eqb}
+use Rattle.gain_graphs.specs.Arcs.{IsIn, Touches}
+use Rattle.gain_graphs.specs.Cycles.{IsNoLoop}
 use Rattle.gain_graphs.specs.QuasiTrees.{LiesIn}
 use Rattle.gain_graphs.proofs.Lists.{in_map, in_map_of, length_map}
-use Rattle.gain_graphs.proofs.Sums as sums
-use Rattle.np_frac.specs.Ratio.{Ratio, zero_ratio, ◌*ᵣ◌}
+use Rattle.np_frac.specs.Ratio.{Ratio}
 use Rattle.np_model.specs.declared.arc.Ends.{Ends}
 use Rattle.np_model.specs.declared.arc.Ends.TheVariants.{Link, Drain, Feed}
 use Rattle.np_model.specs.Network.Flows.{Network, at}
 use Rattle.np_model.specs.Basis.Graphs.{ratios, graph_ends, graph_of, ends_at}
 use Rattle.np_model.specs.Basis.Pieces.{PieceLists, nodes_in, basics_in}
-use Rattle.np_model.specs.Rows.Extra.{Extra, extra_arcs, extra_nodes, IsExtra, Hangs}
+use Rattle.np_model.specs.Rows.Extra.{Extra, IsExtra, Hangs}
 use Rattle.np_basis.specs.Laws.{HasSoundArcs}
 use Rattle.np_basis.proofs.Trees as trees
 use Rattle.np_basis.proofs.Extras.{no_loops}
@@ -22,8 +19,8 @@ use Rattle.tree_search.specs.declared.piece.Step.{Step}
 use Rattle.tree_search.specs.declared.piece.Joint.{Joint}
 use Rattle.tree_search.specs.declared.piece.ExtraArc.{ExtraArc}
 use Rattle.tree_search.specs.declared.search.Search.{Search}
-use Rattle.tree_search.specs.Places.{number_by_place, ends_by_place, blank, loose, AreEndsOf, IsPlaceOf, IsJoint, AreJoints, IsTree}
-use Rattle.tree_search.specs.Search.{JoinsAt, GoesOn, IsSearch, IsClosed}
+use Rattle.tree_search.specs.Places.{number_by_place, ends_by_place, loose, AreEndsOf, IsJoint, AreJoints, IsTree}
+use Rattle.tree_search.specs.Search.{IsSearch, IsClosed}
 use Rattle.tree_search.specs.Finding.{as_extra, starts_of, IsFound, IsPlaced}
 use Rattle.tree_search.specs.Outwards.{AreOutwards}
 use Rattle.tree_search.proofs.Hanging.{searches_go_outwards}
@@ -33,7 +30,7 @@ use Rattle.tree_flows.specs.declared.sums.Entering.{Entering}
 use Rattle.tree_flows.specs.Along.{IsWithin, has_end}
 use Rattle.tree_flows.specs.Walks.{ComesAt}
 use Rattle.tree_flows.specs.Answers.{IsPulled}
-use Rattle.tree_flows.proofs.Coefficients.{K, HasRatio, lies_ratio}
+use Rattle.tree_flows.proofs.Coefficients.{HasRatio, lies_ratio}
 
 pub record Scene : Type 0 where
   pub net : Network

@@ -1,15 +1,15 @@
 -- The moving arcs of one piece, or of two.
-use Rattle.std.specs.Prelude.{◌≡◌, ◌≢◌, ◌⊎◌, ◌<◌, ℕ, zero, suc, Bool, true, false, List, [], ◌∷◌, ◌++◌, length, slice_index_or, if◌then◌else◌, Result, Ok, Err, MatchResult}
+use Rattle.std.specs.Prelude.{◌≡◌, ℕ, zero, suc, Bool, true, false, List, [], ◌∷◌, ◌++◌, if◌then◌else◌, Result, Ok, Err, MatchResult}
 use Rattle.std.specs.List.{All}
 use Rattle.std.proofs.Common.{refl, sym, ap, subst, ◌∙◌, inl, inr, arith, append-nil}
 use Rattle.gain_graphs.specs.Arcs.{IsIn, AreDistinct}
 use Rattle.gain_graphs.proofs.Lists.{in_front, in_back, in_append, swap_once}
-use Rattle.np_frac.specs.Ratio.{Ratio, zero_ratio}
+use Rattle.np_frac.specs.Ratio.{Ratio}
 use Rattle.np_frac.specs.Fits.{Fits}
 use Rattle.np_model.specs.declared.arc.Ends.{Ends}
 use Rattle.np_model.specs.declared.log.Mark.{Mark}
 use Rattle.np_model.specs.declared.rows.Overflow.{Overflow}
-use Rattle.np_model.specs.Network.Flows.{Network, at}
+use Rattle.np_model.specs.Network.Flows.{Network}
 use Rattle.np_model.specs.Basis.Pieces.{PieceLists, basics_in, basics_of}
 use Rattle.np_basis.proofs.Ascending.{ascends, ascends_once}
 use Rattle.tree_flows.specs.declared.refusal.DirRefusal.{DirRefusal}

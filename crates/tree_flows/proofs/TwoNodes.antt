@@ -1,10 +1,10 @@
 -- Two nodes with a link each way, a feed and a drain: each node alone and both together are pieces of their network, for the tests.
-use Rattle.std.specs.Prelude.{◌≡◌, ◌≢◌, ◌⊎◌, ◌↔◌, ◌<◌, ℕ, zero, suc, List, [], ◌∷◌, length, slice_index_or}
+use Rattle.std.specs.Prelude.{◌≡◌, ◌≢◌, ◌⊎◌, ◌<◌, ℕ, zero, suc, List, [], ◌∷◌, length, slice_index_or}
 use Rattle.std.specs.List.{All}
 use Rattle.std.proofs.Common.{refl, sym, ap, subst, ◌∙◌, inl, inr, arith}
 use Rattle.gain_graphs.specs.Arcs as graph
 use Rattle.gain_graphs.specs.Arcs.{IsIn, AreDistinct, Touches, AreJoined, Along, Against}
-use Rattle.gain_graphs.specs.QuasiTrees.{LiesIn, IsQuasiTree}
+use Rattle.gain_graphs.specs.QuasiTrees.{LiesIn}
 use Rattle.np_frac.specs.Ratio.{Ratio, zero_ratio, ◌<ᵣ◌}
 use Rattle.np_frac.proofs.RatioLaws.{clash, ≤ᵣ_same}
 use Rattle.np_model.specs.declared.arc.Ends.{Ends}

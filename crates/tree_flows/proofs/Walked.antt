@@ -1,11 +1,10 @@
 -- The walk over a piece gives the amounts of the direction, or an operation that is reached overflows.
-use Rattle.std.specs.Prelude.{Vec, ◌≡◌, ◌≢◌, ◌<◌, ◌≤◌, ◌⊎◌, ℕ, zero, suc, List, [], ◌∷◌, length, reverse, slice_index_or, Result, Ok, Err, MatchResult}
+use Rattle.std.specs.Prelude.{Vec, ◌≡◌, ◌<◌, ◌≤◌, ◌⊎◌, ℕ, zero, suc, List, [], ◌∷◌, length, reverse, Result, Ok, Err, MatchResult}
 use Rattle.std.specs.Global.{Global}
 use Rattle.std.specs.List.{All}
 use Rattle.std.proofs.Common.{refl, sym, ap, subst, ◌∙◌, inl, inr, arith}
 use Rattle.gain_graphs.specs.Arcs.{IsIn}
 use Rattle.np_frac.specs.Ratio.{Ratio, zero_ratio}
-use Rattle.np_frac.specs.Exact.{◌▷◌}
 use Rattle.np_frac.specs.declared.frac.Past.{Past}
 use Rattle.np_model.specs.declared.rows.Row.TheVariants.{A4}
 use Rattle.np_model.specs.declared.rows.Overflow.{Overflow}
@@ -13,7 +12,7 @@ use Rattle.np_model.specs.Network.Flows.{at}
 use Rattle.np_model.specs.Basis.Graphs.{ends_at}
 use Rattle.np_model.specs.Basis.Pieces.{nodes_in, basics_in}
 use Rattle.np_model.specs.Rows.Directions.{FitsRows, Gives}
-use Rattle.np_model.specs.Rows.Extra.{Extra, Round, IsExtra}
+use Rattle.np_model.specs.Rows.Extra.{Round}
 use Rattle.np_basis.proofs.Extras.{extra_is_unique}
 use Rattle.tree_search.specs.declared.piece.Step.{Step}
 use Rattle.tree_search.specs.declared.piece.ExtraArc.{ExtraArc}
@@ -28,7 +27,6 @@ use Rattle.tree_flows.proofs.Inward as inward
 use Rattle.tree_flows.proofs.Ending as ending
 use Rattle.tree_flows.proofs.Cycling as cycling
 use Rattle.tree_flows.proofs.Apart.{not_both}
-
 
 beyond : (xs : List Ratio) (a : ℕ) → length xs ≤ a → at xs a ≡ zero_ratio
 beyond [] a l = refl

@@ -1,5 +1,5 @@
 -- An amount of 0 changes no sum and never overflows; nor does a sum of 0 on its way over an arc.
-use Rattle.std.specs.Prelude.{◌≡◌, ◌<◌, ◌^◌, ℕ, nat_eq, Bool, true, false, ℤ, pos, ◌+ℤ◌, ◌*ℤ◌, unsigned_abs, Option, Some, Result, Ok, Err, cond, if◌then◌else◌}
+use Rattle.std.specs.Prelude.{◌≡◌, ◌<◌, ◌^◌, ℕ, nat_eq, Bool, true, false, ℤ, pos, ◌+ℤ◌, ◌*ℤ◌, unsigned_abs, Some, Ok, if◌then◌else◌}
 use Rattle.std.proofs.Common.{refl, sym, ap, subst, ◌∙◌, arith}
 use Rattle.std.proofs.Math.Nat.{one-dvd}
 use Rattle.std.proofs.lemmas.Nat.Gcd.{dvd_refl}
@@ -9,7 +9,6 @@ use Rattle.np_frac.specs.Fits.{Fits}
 use Rattle.np_frac.specs.Lcm.{IsLcm}
 use Rattle.np_frac.specs.Steps.Found.{HasSum}
 use Rattle.np_frac.specs.Exact.{plus_of, times_of, over_of, ◌▷◌}
-use Rattle.np_frac.specs.declared.frac.Past.{Past}
 use Rattle.np_frac.proofs.Exactness.{plus_found, times_found, over_found}
 use Rattle.np_frac.proofs.RatioLaws.{+ᵣ-zero, *ᵣ-zero, zero-*ᵣ}
 use Rattle.gain_graphs.proofs.Algebra as algebra

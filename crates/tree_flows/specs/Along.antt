@@ -1,5 +1,5 @@
 -- The operations of the rows of directions at the nodes of a piece, and inwards along its steps. Nodes and basic arcs are named by their places.
-use Rattle.std.specs.Prelude.{◌≡◌, ◌≢◌, ◌<◌, ◌==◌, nat_lt, nat_le, ℕ, suc, Bool, true, false, List, [], ◌∷◌, length, drop, slice_index, slice_index_or, slice_set, Result, Ok, Err, if◌then◌else◌, pos, ⊤}
+use Rattle.std.specs.Prelude.{◌≢◌, ◌<◌, ◌==◌, nat_lt, nat_le, ℕ, suc, Bool, true, false, List, [], ◌∷◌, length, drop, slice_index, slice_set, Result, Ok, Err, if◌then◌else◌, pos, ⊤}
 use Rattle.std.specs.List.{All}
 use Rattle.np_frac.specs.Ratio.{Ratio, zero_ratio, one_ratio, negated}
 use Rattle.np_frac.specs.Order.{ratio_eq}
@@ -16,7 +16,7 @@ use Rattle.np_model.specs.Basis.Starts.{touches}
 use Rattle.np_model.specs.Rows.Directions.{term, turned, with_first, mixed}
 use Rattle.tree_search.specs.declared.piece.Step.{Step}
 use Rattle.tree_search.specs.declared.piece.Joint.{Joint}
-use Rattle.tree_search.specs.Places.{numbers_of_nodes, ends_by_place, loose}
+use Rattle.tree_search.specs.Places.{numbers_of_nodes, ends_by_place}
 
 -- ---- what the operations need
 

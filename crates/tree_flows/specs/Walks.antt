@@ -1,20 +1,19 @@
 -- The walk over a piece: the links off the extra arc inwards, and then the extra arc.
-use Rattle.std.specs.Prelude.{◌≡◌, ◌≢◌, ◌<◌, ◌≤◌, ℕ, List, [], ◌∷◌, length, drop, reverse, slice_index, slice_index_or, slice_set, if◌then◌else◌, Result, Ok, Err, pos}
+use Rattle.std.specs.Prelude.{◌≡◌, ◌≢◌, ◌<◌, ◌≤◌, ℕ, List, length, drop, reverse, slice_index, slice_index_or, slice_set, if◌then◌else◌, Result, Ok, pos}
 use Rattle.std.specs.List.{All}
 use Rattle.np_frac.specs.Ratio.{Ratio}
 use Rattle.np_frac.specs.Exact.{◌▷◌}
 use Rattle.np_frac.specs.declared.frac.Past.{Past}
 use Rattle.np_model.specs.declared.arc.Ends.{Ends}
-use Rattle.np_model.specs.declared.rows.Row.TheVariants.{A3, A4}
+use Rattle.np_model.specs.declared.rows.Row.TheVariants.{A4}
 use Rattle.np_model.specs.declared.rows.Overflow.{Overflow}
-use Rattle.np_model.specs.Network.Flows.{at}
 use Rattle.np_model.specs.Rows.Directions.{turned}
 use Rattle.tree_search.specs.declared.piece.Step.{Step}
 use Rattle.tree_search.specs.declared.piece.Joint.{Joint}
 use Rattle.tree_search.specs.declared.piece.ExtraArc.{ExtraArc}
 use Rattle.tree_search.specs.declared.piece.ExtraArc.TheVariants as found
 use Rattle.tree_search.specs.Places.{numbers_of_nodes, number_by_place, ends_by_place, loose, AreJoints}
-use Rattle.tree_search.specs.Search.{IsIncidence, IsSearch, IsClosed, AreStepsBelow}
+use Rattle.tree_search.specs.Search.{IsIncidence, IsSearch, IsClosed}
 use Rattle.tree_search.specs.Finding.{starts_of, IsFound}
 use Rattle.tree_flows.specs.declared.layout.Layout.{Layout}
 use Rattle.tree_flows.specs.declared.sums.Entering.{Entering}

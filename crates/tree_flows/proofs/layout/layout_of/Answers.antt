@@ -1,5 +1,5 @@
 use Rattle.std.proofs.Common.{subst, length}
-use Rattle.tree_search.specs.Places.{numbers_of_nodes, AreJoints}
+use Rattle.tree_search.specs.Places.{numbers_of_nodes}
 use Rattle.tree_search.specs.Search.{IsIncidence, IsSearch, IsClosed}
 use Rattle.tree_search.specs.Finding.{starts_of, IsFound}
 use Rattle.tree_search.proofs.Trees.{ends_have_places}

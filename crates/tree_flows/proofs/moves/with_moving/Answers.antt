@@ -1,4 +1,4 @@
-use Rattle.std.proofs.Common.{ℕ, ◌<◌, sym, subst, ap, slice_index_or, ◌∙◌, ◌++◌, [], ◌∷◌, if◌then◌else◌, rules}
+use Rattle.std.proofs.Common.{◌<◌, sym, subst, ap, slice_index_or, ◌∙◌, ◌++◌, [], ◌∷◌, if◌then◌else◌}
 use Rattle.np_frac.specs.Ratio.{Ratio}
 use Rattle.tree_flows.specs.Along.{is_zero}
 use Rattle.tree_flows.proofs.Moving.{moving_more, fit_more}

@@ -1,6 +1,5 @@
 use Rattle.std.proofs.Common.{List, sym, subst}
 use Rattle.std.specs.List.{All}
-use Rattle.np_frac.specs.Ratio.{Ratio}
 use Rattle.tree_search.specs.declared.piece.Step.{Step}
 use Rattle.tree_flows.specs.Along.{IsWithin}
 use Rattle.tree_flows.specs.Walks.{CanClose}

@@ -1,10 +1,10 @@
-use Rattle.std.proofs.Common.{◌≡◌, ◌∙◌, [], ◌∷◌, ap, sym, subst, inl, refl}
+use Rattle.std.proofs.Common.{◌∙◌, [], ◌∷◌, ap, sym, subst, inl, refl}
 use Rattle.std.specs.List.{All}
 use Rattle.np_frac.specs.Fits.{Fits}
 use Rattle.np_model.specs.Basis.Pieces.{PieceLists, nodes_in}
 use Rattle.np_model.specs.Basis.Sound.{IsInNet}
 use Rattle.tree_search.specs.Places.{IsTree}
-use Rattle.tree_flows.specs.Answers.{piece_of, AreAmounts, IsOverflow, IsPulled}
+use Rattle.tree_flows.specs.Answers.{AreAmounts, IsOverflow, IsPulled}
 use Rattle.tree_flows.proofs.Needs as needs
 use Rattle.tree_flows.proofs.Together.{one_piece, refused, same_piece, joined}
 use Rattle.tree_flows.proofs.pieces.steps_on_one.Goals as goal
