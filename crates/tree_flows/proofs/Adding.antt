@@ -325,16 +325,21 @@ module _ (s : Scene) where
 
   hung_of : (p b : ℕ) (early : Bool) → IsIn b (part p early) → (u : ℕ) × scenes.Hanging s b (scenes.node s p) u
   hung_of p b early j =
-      let r = part_of p early b j in
-      (scenes.node s r.0.far, subst (λ n. scenes.Hanging s n (scenes.node s p) (scenes.node s r.0.far)) (sym r.3)
-          (subst (λ n. scenes.Hanging s (scenes.number s r.0.arc) (scenes.node s n) (scenes.node s r.0.far)) r.2 ((scenes.out s).hang r.0 r.1)))
+      let r = part_of p early b j in (
+        scenes.node s r.0.far,
+        subst (λ n. scenes.Hanging s n (scenes.node s p) (scenes.node s r.0.far)) (sym r.3)
+            (subst (λ n. scenes.Hanging s (scenes.number s r.0.arc) (scenes.node s n) (scenes.node s r.0.far)) r.2 ((scenes.out s).hang r.0 r.1)),
+      )
 
   to_added : (p b : ℕ) → IsIn b (list p) → IsAddedAt (scenes.ends s) s.d (scenes.own s) (scenes.x s) s.e.arc (scenes.node s p) b
   to_added p b i = elim (in_append b (part p true) (entering p ++ part p false) i) [
     | inl j ↦ inr (hung_of p b true j)
     | inr k ↦ elim (in_append b (entering p) (part p false) k) [
-      | inl j ↦ (let r = entering_of p b j in inl (r.0, subst (λ (a : ℕ). Touches (scenes.node s p ∷ []) (graph_of (scenes.ends s) a)) (sym r.0)
-          (subst (λ (e : Ends). Touches (scenes.node s p ∷ []) (graph_ends e)) (sym s.pulled.ends_are) (true_touch s.e.ends (scenes.node s p) r.1))))
+      | inl j ↦ (let r = entering_of p b j in inl (
+        r.0,
+        subst (λ (a : ℕ). Touches (scenes.node s p ∷ []) (graph_of (scenes.ends s) a)) (sym r.0)
+            (subst (λ (e : Ends). Touches (scenes.node s p ∷ []) (graph_ends e)) (sym s.pulled.ends_are) (true_touch s.e.ends (scenes.node s p) r.1)),
+      ))
       | inr j ↦ inr (hung_of p b false j)
     ]
   ]

@@ -93,7 +93,7 @@ module _ (nodes : List ℕ) (basics : List (ℕ × Ends × Ratio)) where
       let p : (number_by_place basics z.arc, slice_index nodes z.far) ≡ y = cc in
       let f : before ++ after ≡ way l = cc in
       let r = split_way l before after f in
-      (z ∷ r.0, r.1, ap (λ t. z ∷ t) r.2, ap₂ (λ t w. t ∷ w) p r.3)
+      (z ∷ r.0, r.1, ap (λ t. z ∷ t) {x = r.0 ++ r.1} r.2, ap₂ (λ t w. t ∷ w) p r.3)
 
 -- ---- which sums are 0
 

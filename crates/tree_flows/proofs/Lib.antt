@@ -18,3 +18,5 @@ mod Pulling
 mod Listing
 mod Together
 mod Answering
+mod FiveNodes
+mod TwoNodes

@@ -221,13 +221,16 @@ module _ (net : Network) (sound : HasSoundArcs net) where
           go false e = refl
 
       pub direction_exists : (d : ℕ → Ratio) × IsDirectionOf net pieces enter amount d
-      direction_exists = (whole, record {
-        enters = whole_here enter refl;
-        only = λ a i _. i;
-        balanced = λ v i.
-            balance_is numbers numbers_below whole v
-            ∙ ap₂ (λ x y. K (E enter) v *ᵣ x +ᵣ y) (whole_here enter refl)
-            (sums.total_same ratios (λ a. K (E a) v *ᵣ whole a) (λ a. K (E a) v *ᵣ together pieces can.in_net a) (basics_of pieces) (λ a k. ap (λ t. K (E a) v *ᵣ t) (whole_there a k))
-            ∙ balances pieces can.in_net can.apart v i)
-            ∙ +ᵣ-negated (K (E enter) v *ᵣ amount);
-      })
+      direction_exists = (
+        whole,
+        record {
+          enters = whole_here enter refl;
+          only = λ a i _. i;
+          balanced = λ v i.
+              balance_is numbers numbers_below whole v
+              ∙ ap₂ (λ x y. K (E enter) v *ᵣ x +ᵣ y) (whole_here enter refl)
+              (sums.total_same ratios (λ a. K (E a) v *ᵣ whole a) (λ a. K (E a) v *ᵣ together pieces can.in_net a) (basics_of pieces) (λ a k. ap (λ t. K (E a) v *ᵣ t) (whole_there a k))
+              ∙ balances pieces can.in_net can.apart v i)
+              ∙ +ᵣ-negated (K (E enter) v *ᵣ amount);
+        },
+      )

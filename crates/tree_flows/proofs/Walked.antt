@@ -28,7 +28,6 @@ use Rattle.tree_flows.proofs.Ending as ending
 use Rattle.tree_flows.proofs.Cycling as cycling
 use Rattle.tree_flows.proofs.Apart.{not_both}
 
-
 beyond : (xs : List Ratio) (a : ℕ) → length xs ≤ a → at xs a ≡ zero_ratio
 beyond [] a l = refl
 beyond (x ∷ xs) zero l = absurd (omega arith)

@@ -53,12 +53,7 @@ impl<'a> Round<'a> {
 }
 
 // The amount on the last arc, from that on the first, with the sums at the nodes between.
-fn amount_along(
-    round: &Round<'_>,
-    first: Step,
-    rest: &[Step],
-    amount: Frac,
-) -> Result<Frac, Past>
+fn amount_along(round: &Round<'_>, first: Step, rest: &[Step], amount: Frac) -> Result<Frac, Past>
     requires gains { HaveGains round.now.basics.now }
     requires each_node { length round.now.sums.now ≡ length round.now.nodes.now }
     requires within { IsWithin round.now.nodes.now round.now.basics.now first }

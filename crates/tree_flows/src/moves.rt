@@ -12,11 +12,7 @@ use np_frac::{Frac, Memory};
 use np_model::Ends;
 
 // The list with this arc, unless its amount is 0.
-fn with_step(
-    steps: Vec<(u32, Frac)>,
-    arc: u32,
-    amount: Frac,
-) -> Result<Vec<(u32, Frac)>, Memory>
+fn with_step(steps: Vec<(u32, Frac)>, arc: u32, amount: Frac) -> Result<Vec<(u32, Frac)>, Memory>
     ensures more { IfOk result (λ list. list.items ≡ steps.items ++ (if is_zero amount then [] else (arc, amount) ∷ [])) }
     ensures fit { Fits amount }
 {

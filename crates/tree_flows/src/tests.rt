@@ -94,10 +94,7 @@ fn two_nodes(alloc: Global, there: Frac, back: Frac) -> Result<TwoNodes, Memory>
     };
     let feed = [(2, Ends::Feed(0), zero)];
     let drain = [(3, Ends::Drain(1), zero)];
-    let tree = [
-        (0, link(0, 1, there).ends, zero),
-        (3, Ends::Drain(1), zero),
-    ];
+    let tree = [(0, link(0, 1, there).ends, zero), (3, Ends::Drain(1), zero)];
     let links = [(0, Mark::Lower), (1, Mark::Lower)];
     let others = [(1, Mark::Lower), (2, Mark::Lower)];
     let left = Quasi::of_lists(lists_of(alloc, &[(0, zero)], &feed, &links)?);
@@ -115,11 +112,22 @@ fn two_nodes(alloc: Global, there: Frac, back: Frac) -> Result<TwoNodes, Memory>
 #[test]
 fn nodes_alone(rt: HostRuntime) -> Result<(), Fail> {
     let case = two_nodes(rt.alloc(), Frac::whole(2), Frac::whole(1))?;
-    let found = match direction(rt.alloc(), &case.full, &case.left, Some(&case.right), 1, true) {
+    let found = match direction(
+        rt.alloc(),
+        &case.full,
+        &case.left,
+        Some(&case.right),
+        1,
+        true,
+    ) {
         Ok(found) => found,
         Err(_) => return Err(Fail::from("refused")),
     };
-    let expected = [(1, Frac::whole(1)), (2, Frac::whole(-1)), (3, Frac::whole(-1))];
+    let expected = [
+        (1, Frac::whole(1)),
+        (2, Frac::whole(-1)),
+        (3, Frac::whole(-1)),
+    ];
     assert!(rt; found.enter == 1 && found.up);
     assert!(rt; found.steps.as_slice() == expected.as_slice());
     Ok(())
@@ -129,11 +137,22 @@ fn nodes_alone(rt: HostRuntime) -> Result<(), Fail> {
 #[test]
 fn nodes_alone_turned(rt: HostRuntime) -> Result<(), Fail> {
     let case = two_nodes(rt.alloc(), Frac::whole(2), Frac::whole(3))?;
-    let found = match direction(rt.alloc(), &case.full, &case.right, Some(&case.left), 1, false) {
+    let found = match direction(
+        rt.alloc(),
+        &case.full,
+        &case.right,
+        Some(&case.left),
+        1,
+        false,
+    ) {
         Ok(found) => found,
         Err(_) => return Err(Fail::from("refused")),
     };
-    let expected = [(1, Frac::whole(-1)), (2, Frac::whole(3)), (3, Frac::whole(1))];
+    let expected = [
+        (1, Frac::whole(-1)),
+        (2, Frac::whole(3)),
+        (3, Frac::whole(1)),
+    ];
     assert!(rt; found.enter == 1 && !found.up);
     assert!(rt; found.steps.as_slice() == expected.as_slice());
     Ok(())
@@ -148,7 +167,11 @@ fn down_on_a_tree(rt: HostRuntime) -> Result<(), Fail> {
         Ok(found) => found,
         Err(_) => return Err(Fail::from("refused")),
     };
-    let expected = [(0, Frac::whole(-3)), (1, Frac::whole(-1)), (3, Frac::whole(-5))];
+    let expected = [
+        (0, Frac::whole(-3)),
+        (1, Frac::whole(-1)),
+        (3, Frac::whole(-5)),
+    ];
     assert!(rt; found.steps.as_slice() == expected.as_slice());
     Ok(())
 }
@@ -161,7 +184,11 @@ fn one_ended_arc(rt: HostRuntime) -> Result<(), Fail> {
         Ok(found) => found,
         Err(_) => return Err(Fail::from("refused")),
     };
-    let expected = [(0, Frac::whole(1)), (2, Frac::whole(1)), (3, Frac::whole(2))];
+    let expected = [
+        (0, Frac::whole(1)),
+        (2, Frac::whole(1)),
+        (3, Frac::whole(2)),
+    ];
     assert!(rt; found.steps.as_slice() == expected.as_slice());
     Ok(())
 }
@@ -234,14 +261,14 @@ fn are_apart(gains: &Gains) -> bool
 
 // A full network, and a piece of it.
 #[derive(Drop)]
-struct Whole {
+struct FiveNodes {
     full: FullNet,
     piece: Quasi,
 }
 
 // Five nodes. Links lead from 0 to 1, from 2 to 1 and from 2 to 0, and are a cycle; from 3 to 1; and from 3 to 4. A sixth, which is not basic,
 // is like the fifth.
-fn five_nodes(alloc: Global, gains: &Gains) -> Result<Whole, Memory>
+fn five_nodes(alloc: Global, gains: &Gains) -> Result<FiveNodes, Memory>
     ensures parallel { IfOk result (λ made. (phase : ThePhase) → CanEnter (phase_net phase made.full) (made.piece.lists ∷ []) 5) }
     ensures drained { IfOk result (λ made. (phase : ThePhase) → CanEnter (phase_net phase made.full) (made.piece.lists ∷ []) 9) }
 {
@@ -279,7 +306,7 @@ fn five_nodes(alloc: Global, gains: &Gains) -> Result<Whole, Memory>
         artificial: EndsList { items: artificial },
     };
     let piece = Quasi::of_lists(links_piece(alloc, gains)?);
-    Ok(Whole { full, piece })
+    Ok(FiveNodes { full, piece })
 }
 
 // The piece of the first five links.

@@ -32,11 +32,7 @@ fn end_amounts(rows: &Rows<'_>, arc: u32, amounts: Vec<Frac>) -> Result<Vec<Frac
     let mut amounts = amounts;
     let place = rows.joints[arc as usize].from;
     let sum = rows.sum_at(amounts.as_slice(), place)?;
-    let amount = turn(
-        rows.basics[arc as usize].1,
-        node_of(rows.nodes, place),
-        sum,
-    )?;
+    let amount = turn(rows.basics[arc as usize].1, node_of(rows.nodes, place), sum)?;
     amounts[arc as usize] = amount;
     Ok(amounts)
 }
