@@ -30,9 +30,9 @@ touches_more nodes others (graph.Link i j g) h t = elim t [ inl x ↦ inl (h i x
 touches_more nodes others (graph.Drain i) h t = h i t
 touches_more nodes others (graph.Feed i) h t = h i t
 
-same_piece : (n : ℕ) (ends : ℕ → graph.Ends Ratio) (basic : List ℕ) (least : ℕ) (nodes arcs others theirs : List ℕ) → IsPiece n ends basic least nodes arcs
+pub same_members : (n : ℕ) (ends : ℕ → graph.Ends Ratio) (basic : List ℕ) (least : ℕ) (nodes arcs others theirs : List ℕ) → IsPiece n ends basic least nodes arcs
     → AreDistinct others → AreDistinct theirs → ((v : ℕ) → IsIn v nodes ↔ IsIn v others) → ((a : ℕ) → IsIn a arcs ↔ IsIn a theirs) → IsPiece n ends basic least others theirs
-same_piece n ends basic least nodes arcs others theirs p once arcs_once f g = record {
+same_members n ends basic least nodes arcs others theirs p once arcs_once f g = record {
   nodes_once = once;
   arcs_once = arcs_once;
   has_least = (f least).0 p.has_least;
@@ -143,7 +143,7 @@ module _ (net : Network) (s : Values) where
         marks = λ x i. let r = in_map_of (λ a. (a, s.mark a)) x o.list i in ap (λ (y : ℕ × Mark). y.1) r.2 ∙ ap (λ (y : ℕ × Mark). s.mark y.0) (sym r.2);
       }
 
-  valid : HasSoundArcs net → (a : ℕ) → IsIn a (basics net.arcs s.mark) → IsValid ratios (length net.supply) (graph_of (ends_at net.arcs) a)
+  pub valid : HasSoundArcs net → (a : ℕ) → IsIn a (basics net.arcs s.mark) → IsValid ratios (length net.supply) (graph_of (ends_at net.arcs) a)
   valid sound a i = let h = sound a no_arc ((basics_hold net.arcs s.mark a).0 i).0 in is_valid (length net.supply) (ends_at net.arcs a) h.joins h.gain
 
   -- the same in ascending order
@@ -153,7 +153,7 @@ module _ (net : Network) (s : Values) where
     nodes_ascend = rises o.list o.ascends;
     arcs_ascend = rises t.list t.ascends;
     least = least;
-    is_piece = same_piece (length net.supply) (graph_of (ends_at net.arcs)) (basics net.arcs s.mark) least nodes arcs o.list t.list p
+    is_piece = same_members (length net.supply) (graph_of (ends_at net.arcs)) (basics net.arcs s.mark) least nodes arcs o.list t.list p
         (ascends_once o.list o.ascends) (ascends_once t.list t.ascends) (λ u. (o.to u, o.from u)) (λ a. (t.to a, t.from a));
   }
 

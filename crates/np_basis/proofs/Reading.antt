@@ -34,11 +34,11 @@ use Rattle.np_basis.proofs.Trees.{same_ends}
 
 -- ---- what stands beside a number
 
-record Found {A : Type 0} (other : A) (xs : List (ℕ × A)) (v : ℕ) : Type 0 where
-  entry : ℕ × A
-  is_in : IsIn entry xs
-  key : entry.0 ≡ v
-  is : beside other xs v ≡ entry.1
+pub record Found {A : Type 0} (other : A) (xs : List (ℕ × A)) (v : ℕ) : Type 0 where
+  pub entry : ℕ × A
+  pub is_in : IsIn entry xs
+  pub key : entry.0 ≡ v
+  pub is : beside other xs v ≡ entry.1
 
 found_next : {A : Type 0} (other : A) (x : ℕ × A) (xs : List (ℕ × A)) (v : ℕ) (b : Bool) → nat_eq v x.0 ≡ b → (v ≢ x.0 → Found other xs v) → Found other (x ∷ xs) v
 found_next other x xs v true e next = record { entry = x; is_in = inl refl; key = sym (eqb-true v x.0 e); is = ap (λ (t : Bool). if t then x.1 else beside other xs v) e }
@@ -46,7 +46,7 @@ found_next other x xs v false e next =
     let r : Found other xs v = next (eqb-false v x.0 e) in
     record { entry = r.entry; is_in = inr r.is_in; key = r.key; is = ap (λ (t : Bool). if t then x.1 else beside other xs v) e ∙ r.is }
 
-beside_in : {A : Type 0} (other : A) (xs : List (ℕ × A)) (v : ℕ) → IsIn v (map (λ x. x.0) xs) → Found other xs v
+pub beside_in : {A : Type 0} (other : A) (xs : List (ℕ × A)) (v : ℕ) → IsIn v (map (λ x. x.0) xs) → Found other xs v
 beside_in other [] v i = absurd i
 beside_in other (x ∷ xs) v i = found_next other x xs v (nat_eq v x.0) refl (λ h. beside_in other xs v (elim i [ inl p ↦ absurd (h p) | inr j ↦ j ]))
 
@@ -54,18 +54,18 @@ other_next : {A : Type 0} (other : A) (x : ℕ × A) (xs : List (ℕ × A)) (v :
 other_next other x xs v true e h next = absurd (h (eqb-true v x.0 e))
 other_next other x xs v false e h next = ap (λ (t : Bool). if t then x.1 else beside other xs v) e ∙ next
 
-beside_out : {A : Type 0} (other : A) (xs : List (ℕ × A)) (v : ℕ) → (¬ IsIn v (map (λ x. x.0) xs)) → beside other xs v ≡ other
+pub beside_out : {A : Type 0} (other : A) (xs : List (ℕ × A)) (v : ℕ) → (¬ IsIn v (map (λ x. x.0) xs)) → beside other xs v ≡ other
 beside_out other [] v h = refl
 beside_out other (x ∷ xs) v h = other_next other x xs v (nat_eq v x.0) refl (λ e. h (inl e)) (beside_out other xs v (λ i. h (inr i)))
 
 -- ---- lists of several pieces, joined
 
-in_flat : {A B : Type 0} (f : A → List B) (ps : List A) (p : A) (x : B) → IsIn p ps → IsIn x (f p) → IsIn x (flat_map f ps)
+pub in_flat : {A B : Type 0} (f : A → List B) (ps : List A) (p : A) (x : B) → IsIn p ps → IsIn x (f p) → IsIn x (flat_map f ps)
 in_flat f [] p x i j = absurd i
 in_flat f (r ∷ ps) p x (inl e) j = in_front x (f r) (flat_map f ps) (subst (λ t. IsIn x (f t)) e j)
 in_flat f (r ∷ ps) p x (inr i) j = in_back x (f r) (flat_map f ps) (in_flat f ps p x i j)
 
-in_flat_of : {A B : Type 0} (f : A → List B) (ps : List A) (x : B) → IsIn x (flat_map f ps) → (p : A) × IsIn p ps × IsIn x (f p)
+pub in_flat_of : {A B : Type 0} (f : A → List B) (ps : List A) (x : B) → IsIn x (flat_map f ps) → (p : A) × IsIn p ps × IsIn x (f p)
 in_flat_of f [] x i = absurd i
 in_flat_of f (r ∷ ps) x i = elim (in_append x (f r) (flat_map f ps) i) [
   | inl j ↦ (r, inl refl, j)
@@ -73,12 +73,12 @@ in_flat_of f (r ∷ ps) x i = elim (in_append x (f r) (flat_map f ps) i) [
 ]
 
 -- a number of a list of one of the pieces is one of the joined list
-in_keys : {A B : Type 0} (key : A → ℕ) (f : B → List A) (ps : List B) (p : B) (v : ℕ) → IsIn p ps → IsIn v (map key (f p)) → IsIn v (map key (flat_map f ps))
+pub in_keys : {A B : Type 0} (key : A → ℕ) (f : B → List A) (ps : List B) (p : B) (v : ℕ) → IsIn p ps → IsIn v (map key (f p)) → IsIn v (map key (flat_map f ps))
 in_keys key f ps p v i j =
     let r = in_map_of key v (f p) j in
     subst (λ t. IsIn t (map key (flat_map f ps))) (sym r.2) (in_map key r.0 (flat_map f ps) (in_flat f ps p r.0 i r.1))
 
-touches_flat : (ps : List PieceLists) (e : graph.Ends Ratio) → Touches (nodes_of ps) e → (p : PieceLists) × IsIn p ps × Touches (nodes_in p) e
+pub touches_flat : (ps : List PieceLists) (e : graph.Ends Ratio) → Touches (nodes_of ps) e → (p : PieceLists) × IsIn p ps × Touches (nodes_in p) e
 touches_flat ps (graph.Link i j g) t = elim t [
   | inl x ↦ (let r = in_flat_of nodes_in ps i x in (r.0, r.1, inl r.2))
   | inr x ↦ (let r = in_flat_of nodes_in ps j x in (r.0, r.1, inr r.2))
@@ -92,7 +92,7 @@ full_bound : (amount : Ratio) (u : Upper) → IsFull amount u → bound_of u ≡
 full_bound amount (Finite u) h = sym h
 full_bound amount Infinite h = absurd h
 
-stands_bound : (a : NetArc) (m : Mark) (amount : Ratio) → m ≢ marked.Basic → StandsAt a m amount → bound_at a m ≡ amount
+pub stands_bound : (a : NetArc) (m : Mark) (amount : Ratio) → m ≢ marked.Basic → StandsAt a m amount → bound_at a m ≡ amount
 stands_bound a marked.Lower amount h s = sym s
 stands_bound a marked.Upper amount h s = full_bound amount a.upper s
 stands_bound a marked.Basic amount h s = absurd (h refl)
@@ -101,19 +101,19 @@ bound_full : (amount : Ratio) (u : Upper) → IsFull amount u → IsFull (bound_
 bound_full amount (Finite u) h = refl
 bound_full amount Infinite h = absurd h
 
-bound_stands : (a : NetArc) (m : Mark) (amount : Ratio) → StandsAt a m amount → StandsAt a m (bound_at a m)
+pub bound_stands : (a : NetArc) (m : Mark) (amount : Ratio) → StandsAt a m amount → StandsAt a m (bound_at a m)
 bound_stands a marked.Lower amount s = refl
 bound_stands a marked.Upper amount s = bound_full amount a.upper s
 bound_stands a marked.Basic amount s = record {}
 
 -- ---- pieces of a state agree with it
 
-record Agrees (net : Network) (s : Values) (ps : List PieceLists) : Type 0 where
-  marks : (a : ℕ) → a < length net.arcs → Touches (nodes_of ps) (graph_of (ends_at net.arcs) a) → (values_in net ps).mark a ≡ s.mark a
-  flows : (a : ℕ) → a < length net.arcs → Touches (nodes_of ps) (graph_of (ends_at net.arcs) a) → (values_in net ps).flow a ≡ s.flow a
-  potentials : (v : ℕ) → IsIn v (nodes_of ps) → (values_in net ps).potential v ≡ s.potential v
+pub record Agrees (net : Network) (s : Values) (ps : List PieceLists) : Type 0 where
+  pub marks : (a : ℕ) → a < length net.arcs → Touches (nodes_of ps) (graph_of (ends_at net.arcs) a) → (values_in net ps).mark a ≡ s.mark a
+  pub flows : (a : ℕ) → a < length net.arcs → Touches (nodes_of ps) (graph_of (ends_at net.arcs) a) → (values_in net ps).flow a ≡ s.flow a
+  pub potentials : (v : ℕ) → IsIn v (nodes_of ps) → (values_in net ps).potential v ≡ s.potential v
 
-map_map : {A B C : Type 0} (f : A → B) (g : B → C) (xs : List A) → map g (map f xs) ≡ map (λ x. g (f x)) xs
+pub map_map : {A B C : Type 0} (f : A → B) (g : B → C) (xs : List A) → map g (map f xs) ≡ map (λ x. g (f x)) xs
 map_map f g [] = refl
 map_map f g (x ∷ xs) = ap (λ t. g (f x) ∷ t) (map_map f g xs)
 
@@ -181,12 +181,12 @@ module _ (net : Network) (s : Values) (stands : (a : ℕ) → a < length net.arc
       let k = in_flat_of (λ (p : PieceLists). p.nodes) ps f.entry f.is_in in
       f.is ∙ (pieces k.0 k.1).read_off.potentials f.entry k.2 ∙ ap s.potential f.key
 
-  agrees : Agrees net s ps
+  pub agrees : Agrees net s ps
   agrees = record { marks = agree_mark; flows = agree_flow; potentials = agree_potential }
 
 -- ---- prices and rows by the potentials of the nodes alone
 
-price_same : (p q : ℕ → Ratio) (nodes : List ℕ) (a : NetArc) → LiesIn ratios nodes (graph_ends a.ends) → ((v : ℕ) → IsIn v nodes → p v ≡ q v) → price p a ≡ price q a
+pub price_same : (p q : ℕ → Ratio) (nodes : List ℕ) (a : NetArc) → LiesIn ratios nodes (graph_ends a.ends) → ((v : ℕ) → IsIn v nodes → p v ≡ q v) → price p a ≡ price q a
 price_same p q nodes a inside same = go a.ends inside
   where
     go : (e : Ends) → LiesIn ratios nodes (graph_ends e) → reduced_cost e a.cost (p (tail_of e)) (p (head_of e)) ≡ reduced_cost e a.cost (q (tail_of e)) (q (head_of e))
@@ -216,18 +216,18 @@ module _ (ends : ℕ → Ends) (cost : ℕ → Ratio) (nodes arcs : List ℕ) (l
   leads_inside (OneEnd b k) a u v extra leads = hangs_inside (OneEnd b k) a u v leads
   leads_inside (Round k way) a u v extra leads = elim leads [ inl h ↦ hangs_inside (Round k way) a u v h | inr r ↦ on_round k way k a u v extra.cycle.closes r ]
 
-  rows_same : (p q : ℕ → Ratio) → ((v : ℕ) → IsIn v nodes → p v ≡ q v) → PotentialsFit ends cost arcs p → PotentialsFit ends cost arcs q
+  pub rows_same : (p q : ℕ → Ratio) → ((v : ℕ) → IsIn v nodes → p v ≡ q v) → PotentialsFit ends cost arcs p → PotentialsFit ends cost arcs q
   rows_same p q same fit x extra =
       let f : FitsRows ends cost arcs x p = fit x extra in
       record { at_root = f.at_root; links = λ a u v leads. subst (λ t. IsOk (across (ends a) (cost a) u t)) (same u (leads_inside x a u v extra leads)) (f.links a u v leads) }
 
 -- ---- pieces of a state are sound
 
-within_at : (net : Network) (s : State) → IsState net s → (a : ℕ) → a < length net.arcs → IsWithin (arc_at net.arcs a) (at s.flows a)
+pub within_at : (net : Network) (s : State) → IsState net s → (a : ℕ) → a < length net.arcs → IsWithin (arc_at net.arcs a) (at s.flows a)
 within_at net s st a l = subst (λ (z : NetArc × Ratio). IsWithin z.0 z.1) (zipped net.arcs s.flows st.feasible.one_each a l (no_arc, zero_ratio))
     (st.feasible.within a (no_arc, zero_ratio) (omega (arith, length-zip net.arcs s.flows, st.feasible.one_each)))
 
-piece_is_sound : (net : Network) (s : State) (p : PieceLists) → IsState net s → IsPieceOf net (values_of s) p → IsSound net p
+pub piece_is_sound : (net : Network) (s : State) (p : PieceLists) → IsState net s → IsPieceOf net (values_of s) p → IsSound net p
 piece_is_sound net s p st h = record {
   in_net = record {
     shape = record {

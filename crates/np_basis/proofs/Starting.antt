@@ -57,7 +57,7 @@ beside_map f g [] = refl
 beside_map f g (x ∷ xs) = ap (λ t. f (x, g x) +ᵣ t) (beside_map f g xs)
 
 -- a list of one number
-one_alone : (x : ℕ) (xs : List ℕ) → AreDistinct xs → IsIn x xs → ((v : ℕ) → IsIn v xs → v ≡ x) → xs ≡ x ∷ []
+pub one_alone : (x : ℕ) (xs : List ℕ) → AreDistinct xs → IsIn x xs → ((v : ℕ) → IsIn v xs → v ≡ x) → xs ≡ x ∷ []
 one_alone x [] once i only = absurd i
 one_alone x (y ∷ []) once i only = ap (λ t. t ∷ []) (only y (inl refl))
 one_alone x (y ∷ z ∷ xs) once i only = absurd (once.0 (inl (only y (inl refl) ∙ sym (only z (inr (inl refl))))))
@@ -69,7 +69,7 @@ none_leads (graph.Link i j g) u v h joins = h
 none_leads (graph.Drain i) u v h joins = joins
 none_leads (graph.Feed i) u v h joins = joins
 
-one_end_fits : (ends : ℕ → Ends) (cost : ℕ → Ratio) (a : ℕ) (potential : ℕ → Ratio) → HasOneEnd (graph_of ends a) → PotentialsFit ends cost (a ∷ []) potential
+pub one_end_fits : (ends : ℕ → Ends) (cost : ℕ → Ratio) (a : ℕ) (potential : ℕ → Ratio) → HasOneEnd (graph_of ends a) → PotentialsFit ends cost (a ∷ []) potential
 one_end_fits ends cost a potential h (OneEnd b v) extra = record {
   at_root = refl;
   links = λ c u w hangs. absurd (elim (subst (IsIn c) hangs.split (in_back c hangs.before (c ∷ hangs.after) (inl refl))) [
