@@ -1,0 +1,2 @@
+-- A pivot of one piece or two: the lists and the pieces after it.
+pub mod After

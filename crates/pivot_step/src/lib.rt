@@ -1,0 +1,5 @@
+//! A pivot of one piece or two.
+#![tactic(auto)]
+
+/// Stub.
+pub fn stub() {}
