@@ -162,8 +162,9 @@ module _ (net : Network) (arcs_sound : HasSoundArcs net) (ps : List PieceLists) 
   own_arc a = elim [
     | inl e ↦ (subst (λ x. x < length net.arcs) (sym e) may.below, subst (λ x. LiesIn ratios (nodes_of ps) (graph_of (ends_at net.arcs) x)) (sym e) may.ends)
     | inr i ↦ (let r = in_flat_of basics_in ps a i in (
-        sounds.below net ps sound r.0 a r.1 r.2,
-        graph_pieces.wider ratios (length net.supply) (graph_of (ends_at net.arcs)) (nodes_in r.0) (nodes_of ps) (λ v j. in_flat nodes_in ps r.0 v r.1 j) (graph_of (ends_at net.arcs) a) (sounds.inside net ps sound r.0 a r.1 r.2)))
+      sounds.below net ps sound r.0 a r.1 r.2,
+      graph_pieces.wider ratios (length net.supply) (graph_of (ends_at net.arcs)) (nodes_in r.0) (nodes_of ps) (λ v j. in_flat nodes_in ps r.0 v r.1 j) (graph_of (ends_at net.arcs) a) (sounds.inside net ps sound r.0 a r.1 r.2),
+    ))
   ]
 
   to_one : (v : ℕ) → IsIn v (nodes_of ps) → IsIn v (numbers_of_nodes one.nodes)

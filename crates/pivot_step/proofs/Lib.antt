@@ -1,3 +1,5 @@
 mod Found
 mod Finding
 mod Assembled
+mod Flipping
+mod Ready

@@ -1,2 +1,4 @@
 -- A pivot of one piece or two: the lists and the pieces after it.
 pub mod After
+pub mod Overflows
+pub mod Steps
