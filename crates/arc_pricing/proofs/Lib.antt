@@ -1,0 +1,3 @@
+pub mod Eligibility
+pub mod Order
+pub mod SmallNets

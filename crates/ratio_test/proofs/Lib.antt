@@ -1,0 +1,11 @@
+pub mod Bounds
+pub mod Members
+pub mod Held
+pub mod First
+pub mod Whole
+pub mod OneStep
+pub mod Unique
+pub mod OneNode
+pub mod TwoNodes
+pub mod FirstStart
+pub mod Single

@@ -1,0 +1,5 @@
+pub mod Limits
+pub mod Asked
+pub mod Answers
+pub mod Steps
+pub mod Laws
