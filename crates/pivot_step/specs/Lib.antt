@@ -2,3 +2,5 @@
 pub mod After
 pub mod Overflows
 pub mod Steps
+pub mod Answers
+pub mod Asked

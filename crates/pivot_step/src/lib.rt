@@ -3,7 +3,9 @@
 
 mod change;
 mod exchange;
+mod following;
 mod refusal;
 mod settling;
+mod testing;
 
 pub use change::{Change, apply};
