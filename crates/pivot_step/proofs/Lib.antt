@@ -3,3 +3,5 @@ mod Finding
 mod Assembled
 mod Flipping
 mod Ready
+mod Entering
+mod Answering

@@ -13,6 +13,8 @@ use Rattle.np_model.specs.Basis.Sound.{values_in}
 use Rattle.quasi_tree.specs.Store.{Store}
 use Rattle.piece_lists.specs.Parts.{lists_in}
 use Rattle.arc_pricing.specs.Prices.{price_of}
+use Rattle.tree_flows.specs.declared.refusal.DirRefusal.{DirRefusal}
+use Rattle.tree_flows.specs.declared.refusal.DirRefusal.TheVariants as direction
 use Rattle.pivot_step.specs.declared.testing.Tested.{Tested}
 use Rattle.pivot_step.specs.declared.testing.Tested.TheVariants as tested
 use Rattle.pivot_step.specs.Answers.{PriceFits}
@@ -29,6 +31,10 @@ IsTested net real pieces arc (tested.Past overflow) = price_of net (values_in ne
 abbrev pub IsMoved : Network → ℕ → List PieceLists → Entry → List (ℕ × Ratio) → Ratio → Prepared (Hands Store) → Type 0
 IsMoved net real pieces entry steps t (prepared.Ready made change) = (made ≡ entry) × IsMade net real pieces entry steps t (lists_in change)
 IsMoved net real pieces entry steps t prepared.NotEligible = ⊥
-IsMoved net real pieces entry steps t (prepared.Ray direction) = ⊥
+IsMoved net real pieces entry steps t (prepared.Ray ray) = ⊥
 IsMoved net real pieces entry steps t (prepared.Past overflow) = MoveOverflows net pieces entry steps t overflow
 IsMoved net real pieces entry steps t prepared.Memory = ⊤
+
+abbrev pub of_direction : DirRefusal → Prepared (Hands Store)
+of_direction (direction.Past overflow) = prepared.Past overflow
+of_direction direction.Memory = prepared.Memory

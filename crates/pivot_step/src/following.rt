@@ -6,6 +6,7 @@ ghost use Rattle.np_model.specs.Basis.Phases.{phase_net, real_arcs};
 ghost use Rattle.np_model.specs.Basis.Sound.{values_in};
 ghost use Rattle.piece_lists.specs.Parts.{lists_in};
 ghost use Rattle.ratio_test.specs.Asked.{far_bound};
+ghost use Rattle.ratio_test.specs.Answers.{IsAnswer};
 ghost use Rattle.pivot_step.specs.Answers.{IsAimed, IsPrepared};
 ghost use Rattle.pivot_step.specs.Asked.{IsMoved};
 ghost use Rattle.pivot_step.specs.Overflows.{AreReady, IsMoveBy};
@@ -54,7 +55,70 @@ fn moved(
     }
 }
 
-// Follows a direction.
+// The answer to what the ratio test finds.
+fn answered(
+    alloc: Global,
+    full: &FullNet,
+    phase: Phase,
+    first: &Quasi,
+    second: Option<&Quasi>,
+    flow: Frac,
+    direction: Direction,
+    answer: RatioAnswer,
+) -> Prepared<Change>
+    requires ready { AreReady (phase_net phase full.now) (real_arcs full.now) (pieces_given first.now.lists (option_copied second)) direction.enter }
+    requires aimed { IsAimed (phase_net phase full.now) (real_arcs full.now) (pieces_given first.now.lists (option_copied second)) direction.enter direction }
+    requires its_flow { flow ≡ (values_in (phase_net phase full.now) (pieces_given first.now.lists (option_copied second))).flow direction.enter }
+    requires ratio { IsAnswer (phase_net phase full.now) (pieces_given first.now.lists (option_copied second)) direction answer }
+    ensures { IsPrepared (phase_net phase full.now) (real_arcs full.now) (pieces_given first.now.lists (option_copied second.entry)) direction.enter lists_in result }
+{
+    let enter = direction.enter;
+    match answer {
+        RatioAnswer::Flip(step) => {
+            let entry = Entry {
+                enter,
+                leave: enter,
+                leave_at: far_bound(direction.up),
+            };
+            moved(
+                alloc,
+                full,
+                phase,
+                first,
+                second,
+                entry,
+                flow,
+                direction.steps.as_slice(),
+                step,
+            )
+        }
+        RatioAnswer::Leave {
+            arc,
+            leave_at,
+            step,
+        } => {
+            let entry = Entry {
+                enter,
+                leave: arc,
+                leave_at,
+            };
+            moved(
+                alloc,
+                full,
+                phase,
+                first,
+                second,
+                entry,
+                flow,
+                direction.steps.as_slice(),
+                step,
+            )
+        }
+        RatioAnswer::Ray => Prepared::Ray(direction),
+    }
+}
+
+// Follows a direction as far as the flows can go.
 pub(crate) fn follow(
     alloc: Global,
     full: &FullNet,
@@ -69,17 +133,8 @@ pub(crate) fn follow(
     requires its_flow { flow ≡ (values_in (phase_net phase full.now) (pieces_given first.now.lists (option_copied second))).flow direction.enter }
     ensures { IsPrepared (phase_net phase full.now) (real_arcs full.now) (pieces_given first.now.lists (option_copied second.entry)) direction.enter lists_in result }
 {
-    let enter = direction.enter;
-    let (leave, leave_at, step) = match ratio(full, phase, first, second, &direction) {
-        Ok(RatioAnswer::Flip(step)) => (enter, far_bound(direction.up), step),
-        Ok(RatioAnswer::Leave { arc, leave_at, step }) => (arc, leave_at, step),
-        Ok(RatioAnswer::Ray) => return Prepared::Ray(direction),
-        Err(overflow) => return Prepared::Past(overflow),
-    };
-    let entry = Entry {
-        enter,
-        leave,
-        leave_at,
-    };
-    moved(alloc, full, phase, first, second, entry, flow, direction.steps.as_slice(), step)
+    match ratio(full, phase, first, second, &direction) {
+        Ok(answer) => answered(alloc, full, phase, first, second, flow, direction, answer),
+        Err(overflow) => Prepared::Past(overflow),
+    }
 }

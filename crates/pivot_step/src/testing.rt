@@ -31,9 +31,12 @@ fn potential_in(first: &Quasi, second: Option<&Quasi>, node: u32) -> Frac
     requires { IsIn node (nodes_of (pieces_given first.now.lists (option_copied second))) }
     ensures { result ≡ beside zero_ratio (all_nodes (pieces_given first.now.lists (option_copied second.entry))) node }
 {
+    if first.contains(node) {
+        return first.potential_of(node);
+    }
     match second {
-        Some(other) if !first.contains(node) => other.potential_of(node),
-        _ => first.potential_of(node),
+        Some(other) => other.potential_of(node),
+        None => Frac::whole(0),
     }
 }
 
