@@ -1,6 +1,5 @@
 -- What the direction and the ratio test find makes the answer.
-use Rattle.std.specs.Prelude.{◌≡◌, ◌≢◌, ◌⊎◌, ◌<◌, ℕ, Bool, true, false, Option, Some, None, Result, Ok, Err, MatchResult, List, [], ◌∷◌, map, length}
-use Rattle.std.specs.Result.{IsOk}
+use Rattle.std.specs.Prelude.{◌≡◌, ◌≢◌, ℕ, Bool, Option, Some, None, List, ◌∷◌}
 use Rattle.std.specs.Option.{option_copied}
 use Rattle.std.proofs.Common.{refl, sym, ap, subst, ◌∙◌, inl, inr, Bor}
 use Rattle.gain_graphs.specs.Arcs.{IsIn}
@@ -17,9 +16,9 @@ use Rattle.np_model.specs.Network.Flows.{Network}
 use Rattle.np_model.specs.Basis.Graphs.{graph_of, arc_at, ends_at}
 use Rattle.np_model.specs.Basis.Moves.{sign}
 use Rattle.np_model.specs.Basis.Pieces.{PieceLists, basics_in, beside, nodes_of, basics_of}
-use Rattle.np_model.specs.Basis.Sound.{bound_at, values_in, HoldEnds, AreSound}
+use Rattle.np_model.specs.Basis.Sound.{bound_at, values_in}
 use Rattle.np_model.specs.Basis.States.{StandsAt}
-use Rattle.np_basis.specs.PivotLaws.{IsMoveOf, MayEnter}
+use Rattle.np_basis.specs.PivotLaws.{MayEnter}
 use Rattle.np_basis.proofs.Pivoting.{not_gaining}
 use Rattle.np_basis.proofs.Reading.{in_flat, touches_flat}
 use Rattle.np_basis.proofs.Sound as sounds
@@ -27,14 +26,13 @@ use Rattle.quasi_tree.specs.declared.quasi.Quasi.{Quasi}
 use Rattle.quasi_tree.specs.Store.{Store}
 use Rattle.piece_lists.specs.Parts.{lists_in}
 use Rattle.ratio_test.specs.declared.answer.RatioAnswer.{RatioAnswer}
-use Rattle.ratio_test.specs.declared.answer.RatioAnswer.TheVariants.{Flip, Leave, Ray}
+use Rattle.ratio_test.specs.declared.answer.RatioAnswer.TheVariants.{Flip, Leave}
 use Rattle.ratio_test.specs.Answers as ratio
 use Rattle.ratio_test.specs.Asked as asked
-use Rattle.ratio_test.specs.Limits.{limits_of}
 use Rattle.tree_flows.specs.Answers as flows
 use Rattle.tree_flows.specs.declared.refusal.DirRefusal.{DirRefusal}
 use Rattle.tree_flows.specs.declared.refusal.DirRefusal.TheVariants as refusal
-use Rattle.pivot_step.specs.Answers.{goes_up, PriceFits, HasDirection, DirectionOverflows, IsAimed, IsFollowed, IsPivoted, FirstOverflow, of_direction, of_ratio, of_move, IsPrepared}
+use Rattle.pivot_step.specs.Answers.{goes_up, PriceFits, HasDirection, IsAimed, IsFollowed, IsPivoted, of_direction, of_move, IsPrepared}
 use Rattle.pivot_step.specs.Asked as steps
 use Rattle.pivot_step.specs.Asked.{IsMoved}
 use Rattle.pivot_step.specs.Overflows.{AreReady, IsMoveBy}

@@ -1,5 +1,5 @@
 -- Pieces over the lists after a pivot are the pieces after that pivot.
-use Rattle.std.specs.Prelude.{◌≡◌, ◌≢◌, ◌⊎◌, ◌↔◌, ◌<◌, ◌≤◌, ℕ, Bool, List, [], ◌∷◌, map, length, filter}
+use Rattle.std.specs.Prelude.{◌≡◌, ◌≢◌, ◌↔◌, ◌<◌, ℕ, List, ◌∷◌, map, length}
 use Rattle.std.proofs.Common.{refl, sym, ap, subst, ◌∙◌, inl, inr, arith}
 use native.Mathlib.Decide.{ℕ_discrete}
 use Rattle.std.specs.List.Sorted.{IsStrictlyIncreasing}
@@ -14,16 +14,15 @@ use Rattle.np_model.specs.declared.log.Mark.TheVariants as marked
 use Rattle.np_model.specs.declared.log.Entry.{Entry}
 use Rattle.np_model.specs.Network.Arcs.{IsWithin}
 use Rattle.np_model.specs.Network.Flows.{Network}
-use Rattle.np_model.specs.Basis.Graphs.{ratios, graph_ends, graph_of, arc_at, ends_at}
+use Rattle.np_model.specs.Basis.Graphs.{ratios, graph_of, arc_at, ends_at}
 use Rattle.np_model.specs.Basis.Moves.{IsEligible, mark_after}
 use Rattle.np_model.specs.Basis.Pieces.{PieceLists, nodes_in, basics_in, marked_in, nodes_of, basics_of}
 use Rattle.np_model.specs.Basis.Sound.{bound_at, values_in, HoldEnds, IsInNet, IsSound, AreSound, AreOneOrTwo, IsAfter}
 use Rattle.np_model.specs.Basis.States.{StandsAt}
-use Rattle.np_basis.specs.Laws.{HasSoundArcs}
 use Rattle.np_basis.specs.PivotLaws.{HasRealArcs, AreInNet, MayEnter, IsMoveOf}
-use Rattle.np_basis.proofs.Ascending.{ascends, rises}
+use Rattle.np_basis.proofs.Ascending.{ascends}
 use Rattle.np_basis.proofs.Pivoting.{mark_leave, mark_enter, mark_other, not_towards, not_gaining}
-use Rattle.np_basis.proofs.Reading.{in_flat, in_flat_of, touches_flat, stands_bound, bound_stands}
+use Rattle.np_basis.proofs.Reading.{in_flat, in_flat_of, touches_flat, bound_stands}
 use Rattle.np_basis.proofs.Roots.{trees_after}
 use Rattle.np_basis.proofs.Sound as sounds
 use Rattle.np_basis.proofs.Trees.{same_ends}
@@ -32,7 +31,7 @@ use Rattle.piece_lists.specs.Joining.{all_marks, AreMarksAfter}
 use Rattle.piece_lists.specs.Parts.{touch}
 use Rattle.piece_lists.proofs.Joined.{filter_in, filter_rises}
 use Rattle.piece_lists.proofs.Testing.{touch_in, in_touch}
-use Rattle.pivot_step.specs.After.{HasRightPotentials, AreBasicsAfter, AreListsAfter, IsPieceOver, ArePiecesOver}
+use Rattle.pivot_step.specs.After.{HasRightPotentials, AreBasicsAfter, AreListsAfter, ArePiecesOver}
 
 module _ (net : Network) (real : ℕ) (ground : HasRealArcs net real) (ps : List PieceLists) (sound : AreSound net ps) (entry : Entry) (ends : HoldEnds ps (ends_at net.arcs entry.enter))
     (eligible : IsEligible net real (values_in net ps) entry.enter) where

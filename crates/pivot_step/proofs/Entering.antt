@@ -1,8 +1,7 @@
 -- What one piece or two say of an arc that may enter, and whether it may.
-use Rattle.std.specs.Prelude.{◌≡◌, ◌≢◌, ◌⊎◌, ◌↔◌, ◌<◌, ◌==◌, ℕ, Bool, true, false, cond, IsTrue, Option, Some, None, Result, Ok, Err, List, [], ◌∷◌, ◌++◌, map, length}
+use Rattle.std.specs.Prelude.{◌≡◌, ◌≢◌, ◌⊎◌, ◌↔◌, ◌<◌, ℕ, Bool, true, false, cond, IsTrue, Option, Some, None, Result, Ok, List, [], ◌∷◌, ◌++◌, map, length}
 use Rattle.std.specs.Result.{IsOk}
 use Rattle.std.proofs.Common.{refl, sym, ap, ap₂, subst, ◌∙◌, inl, inr, arith, eqb, true≢false}
-use Rattle.gain_graphs.specs.Arcs as graph
 use Rattle.gain_graphs.specs.Arcs.{IsIn, Touches}
 use Rattle.gain_graphs.specs.QuasiTrees.{LiesIn}
 use Rattle.gain_graphs.proofs.Lists.{in_append, in_front, in_back, map_append, decide_in}
@@ -14,9 +13,9 @@ use Rattle.np_model.specs.declared.log.Mark.TheVariants as marked
 use Rattle.np_model.specs.declared.rows.Overflow.{Overflow}
 use Rattle.np_model.specs.Network.Arcs.{tail_of, head_of}
 use Rattle.np_model.specs.Network.Flows.{Network}
-use Rattle.np_model.specs.Basis.Graphs.{ratios, graph_ends, graph_of, arc_at, ends_at}
+use Rattle.np_model.specs.Basis.Graphs.{ratios, graph_ends, arc_at, ends_at}
 use Rattle.np_model.specs.Basis.Moves.{IsOpen, Gains, IsEligible}
-use Rattle.np_model.specs.Basis.Pieces.{PieceLists, nodes_in, basics_in, marked_in, beside, marks_of, nodes_of, basics_of}
+use Rattle.np_model.specs.Basis.Pieces.{PieceLists, nodes_in, basics_in, marked_in, beside, marks_of, nodes_of}
 use Rattle.np_model.specs.Basis.Sound.{bound_at, values_in, HoldEnds, AreSound}
 use Rattle.np_model.specs.Basis.States.{price}
 use Rattle.np_basis.specs.Laws.{HasSoundArcs}

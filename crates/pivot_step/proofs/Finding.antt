@@ -14,20 +14,20 @@ use Rattle.np_model.specs.declared.arc.Ends.{Ends}
 use Rattle.np_model.specs.declared.log.Mark.{Mark}
 use Rattle.np_model.specs.Network.Flows.{Network}
 use Rattle.np_model.specs.Basis.Graphs.{ratios, graph_of, ends_at}
-use Rattle.np_model.specs.Basis.Pieces.{PieceLists, nodes_in, basics_in, marked_in, beside, nodes_of, basics_of}
+use Rattle.np_model.specs.Basis.Pieces.{PieceLists, nodes_in, basics_in, beside, nodes_of, basics_of}
 use Rattle.np_model.specs.Basis.Sound.{values_in, AreSound}
 use Rattle.np_model.specs.Basis.States.{IsPartOf}
 use Rattle.np_model.specs.Rows.Arcs.{flow_after}
 use Rattle.np_basis.specs.Laws.{HasSoundArcs}
-use Rattle.np_basis.specs.PivotLaws.{AreInNet, MayEnter, AreNeededFor, AreBasicAfter}
-use Rattle.np_basis.proofs.Ascending.{Ascends, ascends, ascends_once}
+use Rattle.np_basis.specs.PivotLaws.{AreInNet, MayEnter, AreNeededFor}
+use Rattle.np_basis.proofs.Ascending.{ascends, ascends_once}
 use Rattle.np_basis.proofs.Pivoting.{unmoved}
 use Rattle.np_basis.proofs.Reading.{beside_in, beside_out, in_flat, in_flat_of}
 use Rattle.np_basis.proofs.Roots.{two_roots}
 use Rattle.np_basis.proofs.Sound as sounds
 use Rattle.tree_search.specs.Places.{numbers_of_nodes, numbers_of_arcs}
 use Rattle.piece_lists.specs.Flowing.{numbers_of_steps, IsMoved, AreFlowsAfter}
-use Rattle.piece_lists.specs.Joining.{all_nodes, all_basics, all_marks, CanBeOne, AreInOne, AreMarksAfter}
+use Rattle.piece_lists.specs.Joining.{all_marks, CanBeOne, AreInOne, AreMarksAfter}
 use Rattle.piece_lists.specs.Parts.{nodes_where, touch, piece_at, pieces_at, AreFound}
 use Rattle.piece_lists.proofs.Joined.{filter_in}
 use Rattle.pivot_step.specs.After.{AreBasicsAfter, IsPieceOver, ArePiecesOver}

@@ -1,6 +1,6 @@
 -- A flip: the basic arcs stay, so the new pieces are the old ones, with their potentials.
 use Rattle.std.specs.Prelude.{◌≡◌, ◌↔◌, ◌<◌, ℕ, List, [], ◌∷◌, ◌++◌, map, length, slice_index}
-use Rattle.std.proofs.Common.{refl, sym, ap, ap₂, subst, ◌∙◌, inl, inr, arith}
+use Rattle.std.proofs.Common.{refl, sym, ap, ap₂, subst, inl, inr, arith}
 use Rattle.gain_graphs.specs.Arcs as graph
 use Rattle.gain_graphs.specs.Arcs.{IsIn, Touches, AreJoined, Step, Along, Against, IsWalk}
 use Rattle.gain_graphs.specs.QuasiTrees.{LiesIn}
@@ -8,15 +8,12 @@ use Rattle.gain_graphs.proofs.Lists.{in_map, in_map_of}
 use Rattle.gain_graphs.proofs.Pieces as graph_pieces
 use Rattle.gain_graphs.proofs.Theorems as theorems
 use Rattle.np_frac.specs.Ratio.{Ratio, zero_ratio}
-use Rattle.np_model.specs.declared.arc.Ends.{Ends}
-use Rattle.np_model.specs.declared.log.Mark.{Mark}
 use Rattle.np_model.specs.Network.Flows.{Network}
 use Rattle.np_model.specs.Basis.Graphs.{ratios, graph_of, arc_at, ends_at, cost_at}
 use Rattle.np_model.specs.Basis.Pieces.{PieceLists, nodes_in, basics_in, beside, nodes_of, basics_of}
-use Rattle.np_model.specs.Basis.Sound.{values_in, IsSound, AreSound}
+use Rattle.np_model.specs.Basis.Sound.{IsSound, AreSound}
 use Rattle.np_model.specs.Basis.States.{price, IsPartOf}
 use Rattle.np_model.specs.Rows.Potentials.{PotentialsFit}
-use Rattle.np_basis.specs.PivotLaws.{AreBasicAfter}
 use Rattle.np_basis.proofs.Ascending.{Ascends, ascends, ascends_once, same_rising}
 use Rattle.np_basis.proofs.Reading.{in_flat, in_flat_of}
 use Rattle.np_basis.proofs.Roots.{joined_more}

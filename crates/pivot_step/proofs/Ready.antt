@@ -1,5 +1,5 @@
 -- What a move needs of the lists of its pieces, and what it gives.
-use Rattle.std.specs.Prelude.{◌≡◌, ◌≢◌, ◌⊎◌, ◌↔◌, ◌<◌, ◌≤◌, ◌+◌, ◌^◌, ℕ, zero, suc, true, false, List, [], ◌∷◌, ◌++◌, map, filter, length, slice_index}
+use Rattle.std.specs.Prelude.{◌≡◌, ◌≢◌, ◌↔◌, ◌<◌, ◌≤◌, ◌+◌, ◌^◌, ℕ, zero, suc, true, false, List, [], ◌∷◌, ◌++◌, map, filter, length, slice_index}
 use Rattle.std.specs.List.{All, range_with_len}
 use Rattle.std.specs.List.Sorted.{IsStrictlyIncreasing}
 use Rattle.std.proofs.Common.{refl, sym, ap, ap₂, subst, ◌∙◌, inl, inr, arith}
@@ -16,34 +16,29 @@ use Rattle.np_model.specs.declared.log.Mark.{Mark}
 use Rattle.np_model.specs.declared.network.FullNet.{FullNet}
 use Rattle.np_model.specs.declared.phase.Phase.{Phase}
 use Rattle.np_model.specs.declared.phase.Phase.TheVariants.{One, Two}
-use Rattle.np_model.specs.declared.rows.Overflow.{Overflow}
-use Rattle.np_model.specs.declared.rows.Place.TheVariants as place
-use Rattle.np_model.specs.declared.rows.Row.TheVariants as row
 use Rattle.np_model.specs.Network.Flows.{Network}
-use Rattle.np_model.specs.Basis.Graphs.{ratios, graph_ends, graph_of, ends_at}
+use Rattle.np_model.specs.Basis.Graphs.{ratios, graph_ends, ends_at}
 use Rattle.np_model.specs.Basis.Phases.{real_arc, artificial_arc, phase_arcs, phase_net, real_arcs, all_arcs}
 use Rattle.np_model.specs.Basis.Pieces.{PieceLists, nodes_in, basics_in, marked_in, beside, nodes_of, basics_of}
-use Rattle.np_model.specs.Basis.Sound.{values_in, HoldEnds, IsInNet, AreSound, AreOneOrTwo, AreInOrder, IsAfter}
+use Rattle.np_model.specs.Basis.Sound.{values_in, HoldEnds, IsInNet, AreOneOrTwo, AreInOrder, IsAfter}
 use Rattle.np_model.specs.Basis.States.{IsPartOf}
-use Rattle.np_basis.specs.Laws.{HasSoundArcs}
 use Rattle.np_basis.specs.PivotLaws.{HasRealArcs, AreNeededFor, MayEnter}
 use Rattle.np_basis.proofs.Ascending.{ascends, ascends_once}
 use Rattle.np_basis.proofs.Basics.{range_holds}
 use Rattle.np_basis.proofs.Directions as directions
 use Rattle.np_basis.proofs.Fulls.{length_full, full_net_is_sound}
-use Rattle.np_basis.proofs.Reading.{in_flat, in_flat_of}
+use Rattle.np_basis.proofs.Reading.{in_flat}
 use Rattle.np_basis.proofs.Roots.{needed_hold}
-use Rattle.np_basis.proofs.Sound as sounds
 use Rattle.quasi_tree.specs.Store.{IsHeld}
 use Rattle.tree_search.specs.Places.{numbers_of_nodes, numbers_of_arcs, HasPlace, EndsHavePlaces}
 use Rattle.piece_lists.specs.Flowing.{numbers_of_steps, AreFlowsAfter, IsFirstPast}
-use Rattle.piece_lists.specs.Joining.{all_nodes, all_marks, AreInOne, AreMarksAfter}
+use Rattle.piece_lists.specs.Joining.{AreInOne, AreMarksAfter}
 use Rattle.piece_lists.specs.Parts.{nodes_where, touch, piece_at, pieces_at, AreFound}
 use Rattle.piece_lists.specs.declared.flowing.FlowRefusal.{FlowRefusal}
 use Rattle.piece_lists.specs.declared.flowing.FlowRefusal.TheVariants as flow
 use Rattle.piece_lists.proofs.Splitting.{where_to}
-use Rattle.pivot_step.specs.After.{AreListsAfter, AreBasicsAfter, IsPieceOver, ArePiecesOver}
-use Rattle.pivot_step.specs.Overflows.{AreReady, IsMoveBy, FlowsFit, FlowsOverflow, PotentialsOverflow, MoveOverflows}
+use Rattle.pivot_step.specs.After.{AreListsAfter, IsPieceOver, ArePiecesOver}
+use Rattle.pivot_step.specs.Overflows.{AreReady, IsMoveBy, FlowsFit, MoveOverflows}
 use Rattle.pivot_step.specs.Steps.{OnPast, of_flows, AreChanged, IsSettled, AreSettled, OneGivesAt, AreFoundAfter}
 use Rattle.pivot_step.specs.declared.refusal.Refusal.{Refusal}
 use Rattle.pivot_step.specs.declared.refusal.Refusal.TheVariants as refusal

@@ -1,6 +1,6 @@
 -- What an attempt to let an arc enter answers, on the one piece or the two that it needs. (Pivots are those of Ahuja, Magnanti and Orlin,
 -- Network Flows, chapters 11 and 15; the order in which overflows are told is this project's own.)
-use Rattle.std.specs.Prelude.{◌≡◌, ◌≢◌, ◌⊎◌, ℕ, Bool, true, false, List, ◌∷◌, Err}
+use Rattle.std.specs.Prelude.{◌≡◌, ◌≢◌, ℕ, Bool, true, false, List, ◌∷◌, Err}
 use Rattle.std.specs.Result.{IsOk}
 use Rattle.std.specs.List.Sorted.{IsStrictlyIncreasing}
 use Rattle.gain_graphs.specs.Arcs.{IsIn}

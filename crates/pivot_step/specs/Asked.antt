@@ -2,7 +2,6 @@
 use Rattle.std.specs.Prelude.{◌≡◌, ℕ, List, Err, ⊤}
 use Rattle.np_frac.specs.Ratio.{Ratio}
 use Rattle.np_model.specs.declared.log.Entry.{Entry}
-use Rattle.np_model.specs.declared.piece.Direction.{Direction}
 use Rattle.np_model.specs.declared.piece.Hands.{Hands}
 use Rattle.np_model.specs.declared.piece.Prepared.{Prepared}
 use Rattle.np_model.specs.declared.piece.Prepared.TheVariants as prepared

@@ -1,7 +1,5 @@
-use Rattle.std.proofs.Common.{◌≡◌, ◌∙◌, ℕ, List, Result, MatchResult, refl, sym, ap, subst}
+use Rattle.std.proofs.Common.{◌∙◌, ℕ, List, Result, MatchResult, sym, ap, subst}
 use Rattle.std.specs.Option.{option_copied}
-use Rattle.np_frac.specs.Ratio.{Ratio}
-use Rattle.np_model.specs.declared.log.Entry.{Entry}
 use Rattle.np_model.specs.declared.log.Mark.TheVariants.{Lower}
 use Rattle.np_model.specs.declared.piece.Direction.{Direction}
 use Rattle.np_model.specs.declared.piece.Hands.{Hands}
@@ -13,7 +11,7 @@ use Rattle.quasi_tree.specs.Store.{Store}
 use Rattle.piece_lists.specs.Parts.{lists_in}
 use Rattle.tree_flows.specs.Answers as flows
 use Rattle.tree_flows.specs.declared.refusal.DirRefusal.{DirRefusal}
-use Rattle.pivot_step.specs.Answers.{goes_up, HasDirection, IsAimed, IsPrepared}
+use Rattle.pivot_step.specs.Answers.{goes_up, IsAimed, IsPrepared}
 use Rattle.pivot_step.specs.Overflows.{AreReady}
 use Rattle.pivot_step.specs.Steps.{pieces_given}
 use Rattle.pivot_step.proofs.Answering as answering

@@ -1,4 +1,4 @@
-use Rattle.std.proofs.Common.{◌≡◌, ◌∙◌, ℕ, sym, subst, ap}
+use Rattle.std.proofs.Common.{◌∙◌, sym, subst, ap}
 use Rattle.std.specs.Option.{option_copied}
 use Rattle.gain_graphs.specs.Arcs.{IsIn}
 use Rattle.np_model.specs.declared.piece.Hands.{Hands}
@@ -7,7 +7,6 @@ use Rattle.quasi_tree.specs.Store.{Store}
 use Rattle.piece_lists.specs.Parts.{lists_in}
 use Rattle.pivot_step.specs.Overflows.{IsMade, MoveOverflows}
 use Rattle.pivot_step.specs.Steps.{pieces_given, OnPast, OneGivesAt, AreSettled}
-use Rattle.pivot_step.specs.declared.refusal.Refusal.{Refusal}
 use Rattle.pivot_step.proofs.Finding.{can_be_one}
 use Rattle.pivot_step.proofs.Ready as ready
 use Rattle.pivot_step.proofs.exchange.pieces_after.Goals as goal

@@ -1,4 +1,4 @@
-use Rattle.std.proofs.Common.{◌≡◌, refl}
+use Rattle.std.proofs.Common.{refl}
 use Rattle.std.specs.Option.{option_copied}
 use Rattle.np_model.specs.Basis.Phases.{phase_net, real_arcs}
 use Rattle.pivot_step.specs.Steps.{pieces_given}

@@ -1,6 +1,5 @@
-use Rattle.std.proofs.Common.{◌≡◌, List, refl, sym, subst}
+use Rattle.std.proofs.Common.{List, refl, sym, subst}
 use Rattle.std.specs.Option.{option_copied}
-use Rattle.np_model.specs.declared.log.Entry.{Entry}
 use Rattle.np_model.specs.declared.log.Mark.TheVariants.{Lower}
 use Rattle.np_model.specs.Basis.Phases.{phase_net, real_arcs}
 use Rattle.np_model.specs.Basis.Pieces.{PieceLists}
