@@ -1,0 +1,7 @@
+mod Found
+mod Finding
+mod Assembled
+mod Flipping
+mod Ready
+mod Entering
+mod Answering

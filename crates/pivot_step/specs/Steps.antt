@@ -1,0 +1,80 @@
+-- Steps of the code: the lists of all pieces in one, changed, and the potentials of the new pieces.
+use Rattle.std.specs.Prelude.{◌≡◌, ℕ, List, [], ◌∷◌, Option, Some, None, ⊤}
+use Rattle.gain_graphs.specs.Arcs.{IsIn}
+use Rattle.np_frac.specs.Ratio.{Ratio, zero_ratio}
+use Rattle.np_model.specs.declared.arc.Ends.{Ends}
+use Rattle.np_model.specs.declared.log.Entry.{Entry}
+use Rattle.np_model.specs.declared.log.Mark.{Mark}
+use Rattle.np_model.specs.declared.rows.Overflow.{Overflow}
+use Rattle.np_model.specs.declared.rows.Place.TheVariants.{Arc}
+use Rattle.np_model.specs.declared.rows.Row.TheVariants.{A6}
+use Rattle.np_model.specs.Network.Flows.{Network}
+use Rattle.np_model.specs.Basis.Pieces.{PieceLists, nodes_in, beside}
+use Rattle.quasi_tree.specs.Store.{Store}
+use Rattle.piece_lists.specs.Flowing.{AreFlowsAfter}
+use Rattle.piece_lists.specs.Joining.{all_nodes, AreMarksAfter}
+use Rattle.piece_lists.specs.declared.flowing.FlowRefusal.{FlowRefusal}
+use Rattle.piece_lists.specs.declared.flowing.FlowRefusal.TheVariants as flow
+use Rattle.tree_potentials.specs.declared.refusal.PotentialRefusal.{PotentialRefusal}
+use Rattle.tree_potentials.specs.declared.refusal.PotentialRefusal.TheVariants as potential
+use Rattle.tree_potentials.specs.Answers.{GivesPast}
+use Rattle.pivot_step.specs.After.{HasRightPotentials, AreListsAfter, ArePiecesOver}
+use Rattle.pivot_step.specs.declared.refusal.Refusal.{Refusal}
+use Rattle.pivot_step.specs.declared.refusal.Refusal.TheVariants as refusal
+
+-- the first piece, and the second where there is one
+abbrev pub pieces_given : PieceLists → Option Store → List PieceLists
+pieces_given first None = first ∷ []
+pieces_given first (Some second) = first ∷ second.lists ∷ []
+
+-- ---- refusals
+
+-- where it is an overflow, it has this cause
+abbrev pub OnPast : (Overflow → Type 0) → Refusal → Type 0
+OnPast P (refusal.Past overflow) = P overflow
+OnPast P refusal.Memory = ⊤
+
+abbrev pub of_flows : FlowRefusal → ℕ → Refusal
+of_flows (flow.Past past) arc = refusal.Past (record { row = A6; place = Arc arc; past = past })
+of_flows flow.Memory arc = refusal.Memory
+
+abbrev pub of_potentials : PotentialRefusal → ℕ → Refusal
+of_potentials (potential.Past overflow) arc = refusal.Past (record { row = overflow.row; place = Arc arc; past = overflow.past })
+of_potentials potential.Memory arc = refusal.Memory
+
+-- ---- lists and pieces
+
+-- the lists with the basic arcs and the marks after a pivot
+pub record AreChanged (one : PieceLists) (entering : ℕ × Ends × Ratio) (entry : Entry) (steps : List (ℕ × Ratio)) (t : Ratio) (lists : PieceLists) : Type 0 where
+  pub nodes : lists.nodes ≡ one.nodes
+  pub flows : AreFlowsAfter one.basics entering entry.leave steps t lists.basics
+  pub marks : AreMarksAfter one.marks entry.enter entry.leave entry.leave_at lists.marks
+
+-- the piece with its right potentials
+pub record IsSettled (net : Network) (old new : PieceLists) : Type 0 where
+  pub nodes : nodes_in new ≡ nodes_in old
+  pub basics : new.basics ≡ old.basics
+  pub marks : new.marks ≡ old.marks
+  pub potentials : HasRightPotentials net new
+
+-- each of these pieces, in order
+abbrev pub AreSettled : Network → List PieceLists → List PieceLists → Type 0
+AreSettled net [] [] = ⊤
+AreSettled net [] (q ∷ new) = ⊥
+AreSettled net (p ∷ old) [] = ⊥
+AreSettled net (p ∷ old) (q ∷ new) = IsSettled net p q × AreSettled net old new
+
+-- an operation of row A3 or A7 overflows at the potentials of the piece, told at the entering arc
+abbrev pub GivesAt : Network → PieceLists → ℕ → Overflow → Type 0
+GivesAt net piece arc overflow = (overflow.place ≡ Arc arc) × GivesPast net piece overflow.row overflow.past
+
+abbrev pub OneGivesAt : Network → List PieceLists → ℕ → Overflow → Type 0
+OneGivesAt net pieces arc overflow = (p : PieceLists) × IsIn p pieces × GivesAt net p arc overflow
+
+-- the pieces after a pivot, with the potentials of before
+pub record AreFoundAfter (net : Network) (pieces : List PieceLists) (entry : Entry) (steps : List (ℕ × Ratio)) (t : Ratio) (found : List PieceLists) : Type 0 where
+  pub basics : List (ℕ × Ends × Ratio)
+  pub marks : List (ℕ × Mark)
+  pub lists_after : AreListsAfter net pieces entry (beside zero_ratio steps) t basics marks
+  pub over : ArePiecesOver net pieces basics marks found
+  pub entries : (p : PieceLists) (n : ℕ × Ratio) → IsIn p found → IsIn n p.nodes → IsIn n (all_nodes pieces)

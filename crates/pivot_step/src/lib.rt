@@ -1,0 +1,13 @@
+//! A pivot of one piece or two: whether an arc may enter, along which direction and how far the flows go, and the pieces after that.
+#![tactic(auto)]
+
+mod attempt;
+mod change;
+mod exchange;
+mod following;
+mod refusal;
+mod settling;
+mod testing;
+
+pub use attempt::prepare;
+pub use change::{Change, apply};

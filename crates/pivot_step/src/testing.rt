@@ -1,0 +1,86 @@
+//! Whether an arc may enter.
+
+ghost use Rattle.std.specs.Prelude.{◌≡◌, ◌<◌, ◌⊎◌};
+ghost use Rattle.std.specs.Option.{option_copied};
+ghost use Rattle.gain_graphs.specs.Arcs.{IsIn};
+ghost use Rattle.np_frac.specs.Ratio.{zero_ratio};
+ghost use Rattle.np_model.specs.Basis.Graphs.{arc_at, ends_at};
+ghost use Rattle.np_model.specs.Basis.Phases.{phase_net, real_arcs, all_arcs};
+ghost use Rattle.np_model.specs.Basis.Pieces.{beside, nodes_of};
+ghost use Rattle.np_model.specs.Basis.Sound.{bound_at, AreSound};
+ghost use Rattle.np_basis.specs.PivotLaws.{AreNeededFor};
+ghost use Rattle.piece_lists.specs.Joining.{all_nodes};
+ghost use Rattle.pivot_step.specs.Asked.{IsTested};
+ghost use Rattle.pivot_step.specs.Steps.{pieces_given};
+
+use arc_pricing::{eligible, price};
+use np_frac::Frac;
+use np_model::{FullNet, Mark, Overflow, Phase, Piece, Upper};
+use quasi_tree::Quasi;
+
+/// Whether an arc may enter, with its mark and its flow; or the overflow of its price.
+#[derive(Clone, Copy, Debug)]
+pub(crate) enum Tested {
+    Eligible { mark: Mark, flow: Frac },
+    NotEligible,
+    Past(Overflow),
+}
+
+// The potential of a node of the pieces.
+fn potential_in(first: &Quasi, second: Option<&Quasi>, node: u32) -> Frac
+    requires { IsIn node (nodes_of (pieces_given first.now.lists (option_copied second))) }
+    ensures { result ≡ beside zero_ratio (all_nodes (pieces_given first.now.lists (option_copied second.entry))) node }
+{
+    if first.contains(node) {
+        return first.potential_of(node);
+    }
+    match second {
+        Some(other) => other.potential_of(node),
+        None => Frac::whole(0),
+    }
+}
+
+// The flow of an arc outside the basis with this mark.
+fn flow_at(full: &FullNet, phase: Phase, arc: u32, mark: Mark) -> Frac
+    requires { arc < all_arcs full.now }
+    ensures { result ≡ bound_at (arc_at (phase_net phase full.now).arcs arc) mark }
+{
+    match mark {
+        Mark::Lower => full.lower(arc),
+        Mark::Upper => match full.upper(phase, arc) {
+            Upper::Finite(bound) => bound,
+            Upper::Infinite => Frac::whole(0),
+        },
+        Mark::Basic => Frac::whole(0),
+    }
+}
+
+// Tests whether an arc may enter, by its price and its mark.
+pub(crate) fn test(
+    full: &FullNet,
+    phase: Phase,
+    first: &Quasi,
+    second: Option<&Quasi>,
+    arc: u32,
+) -> Tested
+    requires is_arc { arc < all_arcs full.now }
+    requires sound { AreSound (phase_net phase full.now) (pieces_given first.now.lists (option_copied second)) }
+    requires needed { AreNeededFor (pieces_given first.now.lists (option_copied second)) (ends_at (phase_net phase full.now).arcs arc) }
+    ensures { IsTested (phase_net phase full.now) (real_arcs full.now) (pieces_given first.now.lists (option_copied second.entry)) arc result }
+{
+    let ends = &full.ends(arc);
+    let tail = potential_in(first, second, ends.tail());
+    let head = potential_in(first, second, ends.head());
+    let reduced = match price(full, phase, arc, tail, head) {
+        Ok(reduced) => reduced,
+        Err(overflow) => return Tested::Past(overflow),
+    };
+    let mark = first.mark_of(arc);
+    if !eligible(full, arc, mark, reduced) {
+        return Tested::NotEligible;
+    }
+    Tested::Eligible {
+        mark,
+        flow: flow_at(full, phase, arc, mark),
+    }
+}
