@@ -18,7 +18,6 @@ use Rattle.np_model.specs.Basis.Moves.{sign}
 use Rattle.np_model.specs.Basis.Pieces.{PieceLists, basics_in, beside, nodes_of, basics_of}
 use Rattle.np_model.specs.Basis.Sound.{bound_at, values_in}
 use Rattle.np_model.specs.Basis.States.{StandsAt}
-use Rattle.np_basis.specs.PivotLaws.{MayEnter}
 use Rattle.np_basis.proofs.Pivoting.{not_gaining}
 use Rattle.np_basis.proofs.Reading.{in_flat, touches_flat}
 use Rattle.np_basis.proofs.Sound as sounds
@@ -35,25 +34,25 @@ use Rattle.tree_flows.specs.declared.refusal.DirRefusal.TheVariants as refusal
 use Rattle.pivot_step.specs.Answers.{goes_up, PriceFits, HasDirection, IsAimed, IsFollowed, IsPivoted, of_direction, of_move, IsPrepared}
 use Rattle.pivot_step.specs.Asked as steps
 use Rattle.pivot_step.specs.Asked.{IsMoved}
+use Rattle.np_basis.specs.PivotLaws.{IsDirectionOf, MayEnter, lists_of, unit_of}
 use Rattle.pivot_step.specs.Overflows.{AreReady, IsMoveBy}
-use Rattle.pivot_step.specs.Steps.{pieces_given}
 
 -- ---- the pieces, in the words of each row
 
-pub given_is : (first : PieceLists) (second : Option (Bor Quasi)) → asked.lists_of {A = Bor Quasi} (λ p. p.now.lists) first second ≡ pieces_given first (option_copied second)
+pub given_is : (first : PieceLists) (second : Option (Bor Quasi)) → lists_of {A = Bor Quasi} (λ p. p.now.lists) first second ≡ lists_of (λ (s : Store). s.lists) first (option_copied second)
 given_is first None = refl
 given_is first (Some other) = refl
 
-pub same_given : (first : PieceLists) (second : Option Store) → flows.pieces_given first second ≡ pieces_given first second
+pub same_given : (first : PieceLists) (second : Option Store) → lists_of (λ (s : Store). s.lists) first second ≡ lists_of (λ (s : Store). s.lists) first second
 same_given first None = refl
 same_given first (Some other) = refl
 
-unit_is : (m : Mark) → m ≢ marked.Basic → sign m ≡ asked.unit_of (goes_up m)
+unit_is : (m : Mark) → m ≢ marked.Basic → sign m ≡ unit_of (goes_up m)
 unit_is marked.Lower h = refl
 unit_is marked.Upper h = refl
 unit_is marked.Basic h = absurd (h refl)
 
-unit_of_flows : (m : Mark) → m ≢ marked.Basic → flows.unit_of (goes_up m) ≡ sign m
+unit_of_flows : (m : Mark) → m ≢ marked.Basic → unit_of (goes_up m) ≡ sign m
 unit_of_flows marked.Lower h = refl
 unit_of_flows marked.Upper h = refl
 unit_of_flows marked.Basic h = absurd (h refl)
@@ -74,7 +73,7 @@ module _ (net : Network) (real : ℕ) (ps : List PieceLists) (arc : ℕ) where
       goes = h.goes ∙ e;
       ascend = h.ascend;
       moves = λ s i. let m = h.moves s i in (m.0, m.1);
-      balances = subst (λ (x : Ratio). flows.IsDirectionOf net ps arc x (beside zero_ratio d.steps)) (ap flows.unit_of e ∙ unit_of_flows ((values_in net ps).mark arc) not_basic) h.balances;
+      balances = subst (λ (x : Ratio). IsDirectionOf net ps arc x (beside zero_ratio d.steps)) (ap unit_of e ∙ unit_of_flows ((values_in net ps).mark arc) not_basic) h.balances;
       rows_fit = h.rows_fit;
     }
 
@@ -82,7 +81,7 @@ module _ (net : Network) (real : ℕ) (ps : List PieceLists) (arc : ℕ) where
     no_direction up (refusal.Past o) e fits h = of_direction fits ready.eligible (record {
       place = h.0;
       amounts = h.1.amounts;
-      direction = subst (λ (x : Ratio). flows.IsDirectionOf net ps arc x h.1.amounts) (ap flows.unit_of e ∙ unit_of_flows ((values_in net ps).mark arc) not_basic) h.1.direction;
+      direction = subst (λ (x : Ratio). IsDirectionOf net ps arc x h.1.amounts) (ap unit_of e ∙ unit_of_flows ((values_in net ps).mark arc) not_basic) h.1.direction;
       piece = h.1.piece;
       is_piece = h.1.is_given;
       gives = h.1.gives;
@@ -111,7 +110,7 @@ module _ (net : Network) (real : ℕ) (ps : List PieceLists) (arc : ℕ) where
       not_zero = λ s i. (h.moves s i).1;
       on_arcs = λ a i. let r = in_map_of (λ (s : ℕ × Ratio). s.0) a d.steps i in
           elim (subst (λ (x : ℕ). IsIn x (arc ∷ basics_of ps)) (sym r.2) (h.moves r.0 r.1).0) [ inl f ↦ inl (f ∙ sym e) | inr j ↦ inr j ];
-      enters = ap (beside zero_ratio d.steps) e ∙ h.balances.enters ∙ unit_is ((values_in net ps).mark arc) not_basic ∙ ap asked.unit_of (sym h.goes);
+      enters = ap (beside zero_ratio d.steps) e ∙ h.balances.enters ∙ unit_is ((values_in net ps).mark arc) not_basic ∙ ap unit_of (sym h.goes);
     }
 
   -- ---- the move
@@ -124,7 +123,7 @@ module _ (net : Network) (real : ℕ) (ps : List PieceLists) (arc : ℕ) where
       own = λ a i. let r = in_map_of (λ (s : ℕ × Ratio). s.0) a d.steps i in
           subst (λ (x : ℕ). IsIn x (d.enter ∷ basics_of ps)) (sym r.2) (subst (λ (x : ℕ). IsIn r.0.0 (x ∷ basics_of ps)) (sym enters) (aimed.has_direction.moves r.0 r.1).0);
       move = record {
-        direction = subst (λ (x : ℕ). flows.IsDirectionOf net ps x (sign ((values_in net ps).mark x)) (beside zero_ratio d.steps)) (sym enters) aimed.has_direction.balances;
+        direction = subst (λ (x : ℕ). IsDirectionOf net ps x (sign ((values_in net ps).mark x)) (beside zero_ratio d.steps)) (sym enters) aimed.has_direction.balances;
         within = g.within;
         greatest = g.greatest;
         leaves = g.leaves;

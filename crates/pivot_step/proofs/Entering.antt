@@ -29,7 +29,7 @@ use Rattle.quasi_tree.specs.Store.{Store}
 use Rattle.piece_lists.specs.Joining.{all_nodes}
 use Rattle.arc_pricing.specs.Prices.{price_at, price_of}
 use Rattle.arc_pricing.proofs.Eligibility.{price_exact}
-use Rattle.pivot_step.specs.Steps.{pieces_given}
+use Rattle.np_basis.specs.PivotLaws.{lists_of}
 
 -- ---- what stands beside a number in two lists
 
@@ -57,23 +57,23 @@ beside_back {A} other (x ∷ xs) ys v h = go (eqb v x.0) refl (beside_back other
 
 -- ---- one piece or two
 
-pub first_potential : (first : PieceLists) (second : Option Store) (v : ℕ) → IsIn v (nodes_in first) → beside zero_ratio first.nodes v ≡ beside zero_ratio (all_nodes (pieces_given first second)) v
+pub first_potential : (first : PieceLists) (second : Option Store) (v : ℕ) → IsIn v (nodes_in first) → beside zero_ratio first.nodes v ≡ beside zero_ratio (all_nodes (lists_of (λ (s : Store). s.lists) first second)) v
 first_potential first None v i = sym (beside_front zero_ratio first.nodes [] v i)
 first_potential first (Some other) v i = sym (beside_front zero_ratio first.nodes (other.lists.nodes ++ []) v i)
 
-pub in_second : (first : PieceLists) (second : Option Store) (other : Store) (v : ℕ) → second ≡ Some other → (¬ IsIn v (nodes_in first)) → IsIn v (nodes_of (pieces_given first second)) → IsIn v (nodes_in other.lists)
+pub in_second : (first : PieceLists) (second : Option Store) (other : Store) (v : ℕ) → second ≡ Some other → (¬ IsIn v (nodes_in first)) → IsIn v (nodes_of (lists_of (λ (s : Store). s.lists) first second)) → IsIn v (nodes_in other.lists)
 in_second first second other v e h i =
-    elim (in_append v (nodes_in first) (nodes_in other.lists ++ []) (subst (λ t. IsIn v (nodes_of (pieces_given first t))) e i)) [ inl j ↦ absurd (h j) | inr j ↦ only_one other.lists v j ]
+    elim (in_append v (nodes_in first) (nodes_in other.lists ++ []) (subst (λ t. IsIn v (nodes_of (lists_of (λ (s : Store). s.lists) first t))) e i)) [ inl j ↦ absurd (h j) | inr j ↦ only_one other.lists v j ]
 
 pub second_potential : (first : PieceLists) (second : Option Store) (other : Store) (v : ℕ) → second ≡ Some other → (¬ IsIn v (nodes_in first)) → IsIn v (nodes_in other.lists)
-    → beside zero_ratio other.lists.nodes v ≡ beside zero_ratio (all_nodes (pieces_given first second)) v
+    → beside zero_ratio other.lists.nodes v ≡ beside zero_ratio (all_nodes (lists_of (λ (s : Store). s.lists) first second)) v
 second_potential first second other v e h i =
-    sym (beside_back zero_ratio first.nodes (other.lists.nodes ++ []) v h ∙ beside_front zero_ratio other.lists.nodes [] v i) ∙ ap (λ t. beside zero_ratio (all_nodes (pieces_given first t)) v) (sym e)
+    sym (beside_back zero_ratio first.nodes (other.lists.nodes ++ []) v h ∙ beside_front zero_ratio other.lists.nodes [] v i) ∙ ap (λ t. beside zero_ratio (all_nodes (lists_of (λ (s : Store). s.lists) first t)) v) (sym e)
 
-pub no_second : (first : PieceLists) (second : Option Store) (v : ℕ) → second ≡ None → (¬ IsIn v (nodes_in first)) → IsIn v (nodes_of (pieces_given first second)) → ⊥
-no_second first second v e h i = h (only_one first v (subst (λ t. IsIn v (nodes_of (pieces_given first t))) e i))
+pub no_second : (first : PieceLists) (second : Option Store) (v : ℕ) → second ≡ None → (¬ IsIn v (nodes_in first)) → IsIn v (nodes_of (lists_of (λ (s : Store). s.lists) first second)) → ⊥
+no_second first second v e h i = h (only_one first v (subst (λ t. IsIn v (nodes_of (lists_of (λ (s : Store). s.lists) first t))) e i))
 
-touches_first : (first : PieceLists) (second : Option Store) (e : Ends) → AreNeededFor (pieces_given first second) e → Touches (nodes_in first) (graph_ends e)
+touches_first : (first : PieceLists) (second : Option Store) (e : Ends) → AreNeededFor (lists_of (λ (s : Store). s.lists) first second) e → Touches (nodes_in first) (graph_ends e)
 touches_first first None (Link i j g) h = inl (only_one first i h.0)
 touches_first first None (Drain v) h = only_one first v h
 touches_first first None (Feed v) h = only_one first v h
@@ -81,11 +81,11 @@ touches_first first (Some other) (Link i j g) h = elim h [ inl k ↦ inl k.0 | i
 touches_first first (Some other) (Drain v) h = absurd h
 touches_first first (Some other) (Feed v) h = absurd h
 
-is_first : (first : PieceLists) (second : Option Store) → IsIn first (pieces_given first second)
+is_first : (first : PieceLists) (second : Option Store) → IsIn first (lists_of (λ (s : Store). s.lists) first second)
 is_first first None = inl refl
 is_first first (Some other) = inl refl
 
-pub stands_first : (net : Network) (first : PieceLists) (second : Option Store) (a : ℕ) → AreSound net (pieces_given first second) → AreNeededFor (pieces_given first second) (ends_at net.arcs a) → a < length net.arcs
+pub stands_first : (net : Network) (first : PieceLists) (second : Option Store) (a : ℕ) → AreSound net (lists_of (λ (s : Store). s.lists) first second) → AreNeededFor (lists_of (λ (s : Store). s.lists) first second) (ends_at net.arcs a) → a < length net.arcs
     → IsIn a (basics_in first) ⊎ IsIn a (marked_in first)
 stands_first net first second a sound needed below = elim (decide_in a (basics_in first)) [
   | yes i ↦ inl i
@@ -96,13 +96,13 @@ mark_keys : (p : PieceLists) → map (λ (m : ℕ × Mark). m.0) (marks_of p) �
 mark_keys p = map_append (λ (m : ℕ × Mark). m.0) (map (λ (b : ℕ × Ends × Ratio). (b.0, marked.Basic)) p.basics) p.marks
     ∙ ap (λ t. t ++ marked_in p) (map_map (λ (b : ℕ × Ends × Ratio). (b.0, marked.Basic)) (λ (m : ℕ × Mark). m.0) p.basics)
 
-pub first_mark : (net : Network) (first : PieceLists) (second : Option Store) (a : ℕ) → IsIn a (basics_in first) ⊎ IsIn a (marked_in first) → beside marked.Lower (marks_of first) a ≡ (values_in net (pieces_given first second)).mark a
+pub first_mark : (net : Network) (first : PieceLists) (second : Option Store) (a : ℕ) → IsIn a (basics_in first) ⊎ IsIn a (marked_in first) → beside marked.Lower (marks_of first) a ≡ (values_in net (lists_of (λ (s : Store). s.lists) first second)).mark a
 first_mark net first second a h = go second
   where
     key : IsIn a (map (λ (m : ℕ × Mark). m.0) (marks_of first))
     key = subst (IsIn a) (sym (mark_keys first)) (elim h [ inl i ↦ in_front a (basics_in first) (marked_in first) i | inr i ↦ in_back a (basics_in first) (marked_in first) i ])
 
-    go : (second : Option Store) → beside marked.Lower (marks_of first) a ≡ (values_in net (pieces_given first second)).mark a
+    go : (second : Option Store) → beside marked.Lower (marks_of first) a ≡ (values_in net (lists_of (λ (s : Store). s.lists) first second)).mark a
     go None = sym (beside_front marked.Lower (marks_of first) [] a key)
     go (Some other) = sym (beside_front marked.Lower (marks_of first) (marks_of other.lists ++ []) a key)
 

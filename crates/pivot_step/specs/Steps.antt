@@ -1,5 +1,5 @@
 -- Steps of the code: the lists of all pieces in one, changed, and the potentials of the new pieces.
-use Rattle.std.specs.Prelude.{◌≡◌, ℕ, List, [], ◌∷◌, Option, Some, None, ⊤}
+use Rattle.std.specs.Prelude.{◌≡◌, ℕ, List, [], ◌∷◌, ⊤}
 use Rattle.gain_graphs.specs.Arcs.{IsIn}
 use Rattle.np_frac.specs.Ratio.{Ratio, zero_ratio}
 use Rattle.np_model.specs.declared.arc.Ends.{Ends}
@@ -10,7 +10,6 @@ use Rattle.np_model.specs.declared.rows.Place.TheVariants.{Arc}
 use Rattle.np_model.specs.declared.rows.Row.TheVariants.{A6}
 use Rattle.np_model.specs.Network.Flows.{Network}
 use Rattle.np_model.specs.Basis.Pieces.{PieceLists, nodes_in, beside}
-use Rattle.quasi_tree.specs.Store.{Store}
 use Rattle.piece_lists.specs.Flowing.{AreFlowsAfter}
 use Rattle.piece_lists.specs.Joining.{all_nodes, AreMarksAfter}
 use Rattle.piece_lists.specs.declared.flowing.FlowRefusal.{FlowRefusal}
@@ -21,11 +20,6 @@ use Rattle.tree_potentials.specs.Answers.{GivesPast}
 use Rattle.pivot_step.specs.After.{HasRightPotentials, AreListsAfter, ArePiecesOver}
 use Rattle.pivot_step.specs.declared.refusal.Refusal.{Refusal}
 use Rattle.pivot_step.specs.declared.refusal.Refusal.TheVariants as refusal
-
--- the first piece, and the second where there is one
-abbrev pub pieces_given : PieceLists → Option Store → List PieceLists
-pieces_given first None = first ∷ []
-pieces_given first (Some second) = first ∷ second.lists ∷ []
 
 -- ---- refusals
 

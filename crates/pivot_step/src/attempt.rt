@@ -11,7 +11,7 @@ ghost use Rattle.piece_lists.specs.Parts.{lists_in};
 ghost use Rattle.pivot_step.specs.Answers.{goes_up, PriceFits, IsPrepared};
 ghost use Rattle.pivot_step.specs.Asked.{of_direction};
 ghost use Rattle.pivot_step.specs.Overflows.{AreReady};
-ghost use Rattle.pivot_step.specs.Steps.{pieces_given};
+ghost use Rattle.np_basis.specs.PivotLaws.{lists_of};
 
 use crate::change::Change;
 use crate::following::follow;
@@ -53,11 +53,11 @@ fn aim(
     mark: Mark,
     flow: Frac,
 ) -> Prepared<Change>
-    requires ready { AreReady (phase_net phase full.now) (real_arcs full.now) (pieces_given first.now.lists (option_copied second)) arc }
-    requires price_fits { PriceFits (phase_net phase full.now) (real_arcs full.now) (pieces_given first.now.lists (option_copied second)) arc }
-    requires its_mark { mark ≡ (values_in (phase_net phase full.now) (pieces_given first.now.lists (option_copied second))).mark arc }
-    requires its_flow { flow ≡ (values_in (phase_net phase full.now) (pieces_given first.now.lists (option_copied second))).flow arc }
-    ensures { IsPrepared (phase_net phase full.now) (real_arcs full.now) (pieces_given first.now.lists (option_copied second.entry)) arc lists_in result }
+    requires ready { AreReady (phase_net phase full.now) (real_arcs full.now) (lists_of (λ s. s.lists) first.now.lists (option_copied second)) arc }
+    requires price_fits { PriceFits (phase_net phase full.now) (real_arcs full.now) (lists_of (λ s. s.lists) first.now.lists (option_copied second)) arc }
+    requires its_mark { mark ≡ (values_in (phase_net phase full.now) (lists_of (λ s. s.lists) first.now.lists (option_copied second))).mark arc }
+    requires its_flow { flow ≡ (values_in (phase_net phase full.now) (lists_of (λ s. s.lists) first.now.lists (option_copied second))).flow arc }
+    ensures { IsPrepared (phase_net phase full.now) (real_arcs full.now) (lists_of (λ s. s.lists) first.now.lists (option_copied second.entry)) arc lists_in result }
 {
     match direction(alloc, full, first, second, arc, goes_up(mark)) {
         Ok(direction) => follow(alloc, full, phase, first, second, flow, direction),
@@ -94,9 +94,9 @@ pub fn prepare(
     arc: u32,
 ) -> Prepared<Change>
     requires is_arc { arc < all_arcs full.now }
-    requires sound { AreSound (phase_net phase full.now) (pieces_given first.now.lists (option_copied second)) }
-    requires needed { AreNeededFor (pieces_given first.now.lists (option_copied second)) (ends_at (phase_net phase full.now).arcs arc) }
-    ensures { IsPrepared (phase_net phase full.now) (real_arcs full.now) (pieces_given first.now.lists (option_copied second.entry)) arc lists_in result }
+    requires sound { AreSound (phase_net phase full.now) (lists_of (λ s. s.lists) first.now.lists (option_copied second)) }
+    requires needed { AreNeededFor (lists_of (λ s. s.lists) first.now.lists (option_copied second)) (ends_at (phase_net phase full.now).arcs arc) }
+    ensures { IsPrepared (phase_net phase full.now) (real_arcs full.now) (lists_of (λ s. s.lists) first.now.lists (option_copied second.entry)) arc lists_in result }
 {
     match test(full, phase, first, second, arc) {
         Tested::Past(overflow) => Prepared::Past(overflow),

@@ -12,7 +12,8 @@ ghost use Rattle.piece_lists.specs.Flowing.{numbers_of_steps, IsFirstPast};
 ghost use Rattle.piece_lists.specs.Joining.{CanBeOne, AreInOne};
 ghost use Rattle.piece_lists.specs.Parts.{lists_in};
 ghost use Rattle.pivot_step.specs.Overflows.{AreReady, IsMoveBy, IsMade, MoveOverflows};
-ghost use Rattle.pivot_step.specs.Steps.{pieces_given, OnPast, AreChanged};
+ghost use Rattle.pivot_step.specs.Steps.{OnPast, AreChanged};
+ghost use Rattle.np_basis.specs.PivotLaws.{lists_of};
 
 use crate::refusal::{Refusal, of_flows};
 use crate::settling::{held, settled};
@@ -24,8 +25,8 @@ use std::alloc::Global;
 
 // The lists of the pieces in one.
 fn in_one(alloc: Global, first: &Quasi, second: Option<&Quasi>) -> Result<Lists, Memory>
-    requires { CanBeOne (pieces_given first.now.lists (option_copied second)) }
-    ensures { IfOk result (λ one. AreInOne (pieces_given first.now.lists (option_copied second.entry)) one.lists) }
+    requires { CanBeOne (lists_of (λ s. s.lists) first.now.lists (option_copied second)) }
+    ensures { IfOk result (λ one. AreInOne (lists_of (λ s. s.lists) first.now.lists (option_copied second.entry)) one.lists) }
 {
     match second {
         None => {
@@ -95,12 +96,12 @@ pub(crate) fn pieces_after(
     steps: &[(u32, Frac)],
     step: Frac,
 ) -> Result<Hands<Quasi>, Refusal>
-    requires ready { AreReady (phase_net phase full.now) (real_arcs full.now) (pieces_given first.now.lists (option_copied second)) entry.enter }
-    requires moves { IsMoveBy (phase_net phase full.now) (pieces_given first.now.lists (option_copied second)) entry steps.now step }
-    requires its_flow { flow ≡ (values_in (phase_net phase full.now) (pieces_given first.now.lists (option_copied second))).flow entry.enter }
+    requires ready { AreReady (phase_net phase full.now) (real_arcs full.now) (lists_of (λ s. s.lists) first.now.lists (option_copied second)) entry.enter }
+    requires moves { IsMoveBy (phase_net phase full.now) (lists_of (λ s. s.lists) first.now.lists (option_copied second)) entry steps.now step }
+    requires its_flow { flow ≡ (values_in (phase_net phase full.now) (lists_of (λ s. s.lists) first.now.lists (option_copied second))).flow entry.enter }
     ensures { MatchResult result
-        (λ pieces. IsMade (phase_net phase full.now) (real_arcs full.now) (pieces_given first.now.lists (option_copied second.entry)) entry steps.now step (lists_in pieces))
-        (OnPast (MoveOverflows (phase_net phase full.now) (pieces_given first.now.lists (option_copied second.entry)) entry steps.now step)) }
+        (λ pieces. IsMade (phase_net phase full.now) (real_arcs full.now) (lists_of (λ s. s.lists) first.now.lists (option_copied second.entry)) entry steps.now step (lists_in pieces))
+        (OnPast (MoveOverflows (phase_net phase full.now) (lists_of (λ s. s.lists) first.now.lists (option_copied second.entry)) entry steps.now step)) }
 {
     let one = in_one(alloc, first, second)?;
     let entering = (entry.enter, full.ends(entry.enter), flow);

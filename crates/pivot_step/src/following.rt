@@ -10,7 +10,7 @@ ghost use Rattle.ratio_test.specs.Answers.{IsAnswer};
 ghost use Rattle.pivot_step.specs.Answers.{IsAimed, IsPrepared};
 ghost use Rattle.pivot_step.specs.Asked.{IsMoved};
 ghost use Rattle.pivot_step.specs.Overflows.{AreReady, IsMoveBy};
-ghost use Rattle.pivot_step.specs.Steps.{pieces_given};
+ghost use Rattle.np_basis.specs.PivotLaws.{lists_of};
 
 use crate::change::Change;
 use crate::exchange::pieces_after;
@@ -40,10 +40,10 @@ fn moved(
     steps: &[(u32, Frac)],
     step: Frac,
 ) -> Prepared<Change>
-    requires ready { AreReady (phase_net phase full.now) (real_arcs full.now) (pieces_given first.now.lists (option_copied second)) entry.enter }
-    requires moves { IsMoveBy (phase_net phase full.now) (pieces_given first.now.lists (option_copied second)) entry steps.now step }
-    requires its_flow { flow ≡ (values_in (phase_net phase full.now) (pieces_given first.now.lists (option_copied second))).flow entry.enter }
-    ensures { IsMoved (phase_net phase full.now) (real_arcs full.now) (pieces_given first.now.lists (option_copied second.entry)) entry steps.now step result }
+    requires ready { AreReady (phase_net phase full.now) (real_arcs full.now) (lists_of (λ s. s.lists) first.now.lists (option_copied second)) entry.enter }
+    requires moves { IsMoveBy (phase_net phase full.now) (lists_of (λ s. s.lists) first.now.lists (option_copied second)) entry steps.now step }
+    requires its_flow { flow ≡ (values_in (phase_net phase full.now) (lists_of (λ s. s.lists) first.now.lists (option_copied second))).flow entry.enter }
+    ensures { IsMoved (phase_net phase full.now) (real_arcs full.now) (lists_of (λ s. s.lists) first.now.lists (option_copied second.entry)) entry steps.now step result }
 {
     match pieces_after(alloc, full, phase, first, second, entry, flow, steps, step) {
         Ok(pieces) => Prepared::Ready {
@@ -66,11 +66,11 @@ fn answered(
     direction: Direction,
     answer: RatioAnswer,
 ) -> Prepared<Change>
-    requires ready { AreReady (phase_net phase full.now) (real_arcs full.now) (pieces_given first.now.lists (option_copied second)) direction.enter }
-    requires aimed { IsAimed (phase_net phase full.now) (real_arcs full.now) (pieces_given first.now.lists (option_copied second)) direction.enter direction }
-    requires its_flow { flow ≡ (values_in (phase_net phase full.now) (pieces_given first.now.lists (option_copied second))).flow direction.enter }
-    requires ratio { IsAnswer (phase_net phase full.now) (pieces_given first.now.lists (option_copied second)) direction answer }
-    ensures { IsPrepared (phase_net phase full.now) (real_arcs full.now) (pieces_given first.now.lists (option_copied second.entry)) direction.enter lists_in result }
+    requires ready { AreReady (phase_net phase full.now) (real_arcs full.now) (lists_of (λ s. s.lists) first.now.lists (option_copied second)) direction.enter }
+    requires aimed { IsAimed (phase_net phase full.now) (real_arcs full.now) (lists_of (λ s. s.lists) first.now.lists (option_copied second)) direction.enter direction }
+    requires its_flow { flow ≡ (values_in (phase_net phase full.now) (lists_of (λ s. s.lists) first.now.lists (option_copied second))).flow direction.enter }
+    requires ratio { IsAnswer (phase_net phase full.now) (lists_of (λ s. s.lists) first.now.lists (option_copied second)) direction answer }
+    ensures { IsPrepared (phase_net phase full.now) (real_arcs full.now) (lists_of (λ s. s.lists) first.now.lists (option_copied second.entry)) direction.enter lists_in result }
 {
     let enter = direction.enter;
     match answer {
@@ -128,10 +128,10 @@ pub(crate) fn follow(
     flow: Frac,
     direction: Direction,
 ) -> Prepared<Change>
-    requires ready { AreReady (phase_net phase full.now) (real_arcs full.now) (pieces_given first.now.lists (option_copied second)) direction.enter }
-    requires aimed { IsAimed (phase_net phase full.now) (real_arcs full.now) (pieces_given first.now.lists (option_copied second)) direction.enter direction }
-    requires its_flow { flow ≡ (values_in (phase_net phase full.now) (pieces_given first.now.lists (option_copied second))).flow direction.enter }
-    ensures { IsPrepared (phase_net phase full.now) (real_arcs full.now) (pieces_given first.now.lists (option_copied second.entry)) direction.enter lists_in result }
+    requires ready { AreReady (phase_net phase full.now) (real_arcs full.now) (lists_of (λ s. s.lists) first.now.lists (option_copied second)) direction.enter }
+    requires aimed { IsAimed (phase_net phase full.now) (real_arcs full.now) (lists_of (λ s. s.lists) first.now.lists (option_copied second)) direction.enter direction }
+    requires its_flow { flow ≡ (values_in (phase_net phase full.now) (lists_of (λ s. s.lists) first.now.lists (option_copied second))).flow direction.enter }
+    ensures { IsPrepared (phase_net phase full.now) (real_arcs full.now) (lists_of (λ s. s.lists) first.now.lists (option_copied second.entry)) direction.enter lists_in result }
 {
     match ratio(full, phase, first, second, &direction) {
         Ok(answer) => answered(alloc, full, phase, first, second, flow, direction, answer),

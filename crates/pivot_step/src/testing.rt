@@ -11,7 +11,7 @@ ghost use Rattle.np_model.specs.Basis.Sound.{bound_at, AreSound};
 ghost use Rattle.np_basis.specs.PivotLaws.{AreNeededFor};
 ghost use Rattle.piece_lists.specs.Joining.{all_nodes};
 ghost use Rattle.pivot_step.specs.Asked.{IsTested};
-ghost use Rattle.pivot_step.specs.Steps.{pieces_given};
+ghost use Rattle.np_basis.specs.PivotLaws.{lists_of};
 
 use arc_pricing::{eligible, price};
 use np_frac::Frac;
@@ -28,8 +28,8 @@ pub(crate) enum Tested {
 
 // The potential of a node of the pieces.
 fn potential_in(first: &Quasi, second: Option<&Quasi>, node: u32) -> Frac
-    requires { IsIn node (nodes_of (pieces_given first.now.lists (option_copied second))) }
-    ensures { result ≡ beside zero_ratio (all_nodes (pieces_given first.now.lists (option_copied second.entry))) node }
+    requires { IsIn node (nodes_of (lists_of (λ s. s.lists) first.now.lists (option_copied second))) }
+    ensures { result ≡ beside zero_ratio (all_nodes (lists_of (λ s. s.lists) first.now.lists (option_copied second.entry))) node }
 {
     if first.contains(node) {
         return first.potential_of(node);
@@ -64,9 +64,9 @@ pub(crate) fn test(
     arc: u32,
 ) -> Tested
     requires is_arc { arc < all_arcs full.now }
-    requires sound { AreSound (phase_net phase full.now) (pieces_given first.now.lists (option_copied second)) }
-    requires needed { AreNeededFor (pieces_given first.now.lists (option_copied second)) (ends_at (phase_net phase full.now).arcs arc) }
-    ensures { IsTested (phase_net phase full.now) (real_arcs full.now) (pieces_given first.now.lists (option_copied second.entry)) arc result }
+    requires sound { AreSound (phase_net phase full.now) (lists_of (λ s. s.lists) first.now.lists (option_copied second)) }
+    requires needed { AreNeededFor (lists_of (λ s. s.lists) first.now.lists (option_copied second)) (ends_at (phase_net phase full.now).arcs arc) }
+    ensures { IsTested (phase_net phase full.now) (real_arcs full.now) (lists_of (λ s. s.lists) first.now.lists (option_copied second.entry)) arc result }
 {
     let ends = &full.ends(arc);
     let tail = potential_in(first, second, ends.tail());
