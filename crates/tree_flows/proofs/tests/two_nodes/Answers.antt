@@ -1,5 +1,4 @@
-use Rattle.std.specs.Prelude.{ℕ, ◌<◌}
-use Rattle.std.proofs.Common.{◌≡◌, ◌∙◌, true, refl, sym, ap, subst, arith}
+use Rattle.std.proofs.Common.{◌∙◌, refl, sym, ap, subst, arith}
 use Rattle.np_frac.specs.Ratio.{zero_ratio, is_below, ◌<ᵣ◌}
 use Rattle.np_frac.proofs.RatioLaws.{is_below_true}
 use Rattle.np_model.specs.declared.arc.Ends.TheVariants.{Drain, Feed}
