@@ -25,7 +25,8 @@ use Rattle.np_model.specs.Basis.States.{Values, price}
 use Rattle.np_model.proofs.FullNets.{real_at}
 use Rattle.np_model.proofs.Pull.{reduced_exactly}
 use Rattle.np_model.proofs.Tested.{under-is, under-so}
-use Rattle.arc_pricing.specs.Prices.{told_at, price_at, price_of, gains, is_open, is_eligible}
+use Rattle.arc_pricing.specs.Prices.{gains, is_open, is_eligible}
+use Rattle.np_model.specs.Rows.Prices.{told_at, price_at, price_of}
 use Rattle.arc_pricing.specs.Candidates.{IsTested}
 
 -- ---- row A2

@@ -10,7 +10,8 @@ use Rattle.np_model.specs.declared.rows.Overflow.{Overflow}
 use Rattle.np_model.specs.Network.Flows.{Network}
 use Rattle.np_model.specs.Basis.Moves.{IsOpen}
 use Rattle.np_model.specs.Basis.States.{Values, values_of}
-use Rattle.arc_pricing.specs.Prices.{price_of, is_eligible}
+use Rattle.arc_pricing.specs.Prices.{is_eligible}
+use Rattle.np_model.specs.Rows.Prices.{price_of}
 use Rattle.arc_pricing.specs.declared.refusal.PriceRefusal.{PriceRefusal}
 use Rattle.arc_pricing.specs.declared.refusal.PriceRefusal.TheVariants as refusal
 

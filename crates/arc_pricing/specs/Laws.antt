@@ -6,7 +6,8 @@ use Rattle.np_model.specs.Network.Flows.{Network}
 use Rattle.np_model.specs.Basis.Graphs.{arc_at}
 use Rattle.np_model.specs.Basis.Moves.{IsEligible}
 use Rattle.np_model.specs.Basis.States.{Values, price}
-use Rattle.arc_pricing.specs.Prices.{price_of, is_eligible}
+use Rattle.arc_pricing.specs.Prices.{is_eligible}
+use Rattle.np_model.specs.Rows.Prices.{price_of}
 use Rattle.arc_pricing.specs.Candidates.{cyclic}
 
 -- what row A2 finds is the reduced cost by these potentials

@@ -6,7 +6,8 @@ ghost use Rattle.np_model.specs.Network.Arcs.{reduced_cost};
 ghost use Rattle.np_model.specs.Basis.Graphs.{ends_at, cost_at};
 ghost use Rattle.np_model.specs.Basis.Moves.{IsOpen, Gains};
 ghost use Rattle.np_model.specs.Basis.Phases.{phase_net, real_arcs, all_arcs};
-ghost use Rattle.arc_pricing.specs.Prices.{price_at, gains, is_open};
+ghost use Rattle.arc_pricing.specs.Prices.{gains, is_open};
+ghost use Rattle.np_model.specs.Rows.Prices.{price_at};
 
 use np_frac::Frac;
 use np_model::{FullNet, Mark, Overflow, Phase, Place, Row};

@@ -18,7 +18,8 @@ use Rattle.np_model.specs.Basis.Pivots.{IsPivot}
 use Rattle.np_model.specs.Basis.Sound.{AreInOrder}
 use Rattle.np_model.specs.Basis.States.{State, Values, values_of, basics, IsPieceOf}
 use Rattle.np_basis.specs.Laws.{HasSoundArcs}
-use Rattle.np_basis.specs.PivotLaws.{ArePiecesOf, AreNeededFor, Needed, PiecesHold, ArePiecesAfter, AreBasicAfter, AtMostTwo}
+use Rattle.np_basis.specs.PivotLaws.{ArePiecesOf, Needed, PiecesHold, ArePiecesAfter, AtMostTwo}
+use Rattle.np_model.specs.Basis.Needed.{AreNeededFor, AreBasicAfter}
 use Rattle.np_basis.proofs.Ascending.{ascends, ascends_once}
 use Rattle.np_basis.proofs.Basics.{basics_hold}
 use Rattle.np_basis.proofs.Cutting as cutting

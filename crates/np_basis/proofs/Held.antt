@@ -19,7 +19,8 @@ use Rattle.np_model.specs.Basis.Pieces.{PieceLists, nodes_in, basics_in, nodes_o
 use Rattle.np_model.specs.Basis.Pivots.{node_numbers, arc_numbers}
 use Rattle.np_model.specs.Basis.States.{State, Values, values_of, basics, IsState}
 use Rattle.np_basis.specs.Laws.{HasSoundArcs}
-use Rattle.np_basis.specs.PivotLaws.{AreInNet, MayEnter, IsDirectionOf, IsDirectionIn, ArePiecesOf, IsLocal, DirectionIsLocal}
+use Rattle.np_basis.specs.PivotLaws.{AreInNet, MayEnter, IsDirectionIn, ArePiecesOf, IsLocal, DirectionIsLocal}
+use Rattle.np_model.specs.Basis.Needed.{IsDirectionOf}
 use Rattle.np_basis.proofs.Ascending.{ascends_once}
 use Rattle.np_basis.proofs.Basics.{range_holds, range_within, range_ascends, basics_hold}
 use Rattle.np_basis.proofs.Directions as directions

@@ -34,15 +34,16 @@ use Rattle.np_basis.proofs.Leaving as leaving
 use Rattle.np_basis.proofs.Pivoting as pivoting
 use Rattle.np_basis.proofs.Pivoting.{mark_leave, mark_enter, mark_other, mark_after_same, not_towards, unmoved, Given}
 use Rattle.np_basis.proofs.Reading as reading
-use Rattle.np_basis.proofs.Reading.{Agrees, within_at}
+use Rattle.np_basis.proofs.Reading.{within_at}
 use Rattle.np_basis.proofs.Sound.{lies_touch}
 use Rattle.np_basis.proofs.ToPieces.{move_same, eligible_same}
+use Rattle.np_basis.specs.Laws.{AgreeWith}
 
 pub given : (net : Network) (real : ℕ) (s : State) (ps : List PieceLists) (entry : Entry) (others : List PieceLists) → HasRealArcs net real → IsState net s → ArePiecesOf net (values_of s) ps
     → IsAfter net real ps entry others → Given net real s ps entry
 given net real s ps entry others ground st pieces h = record { ground = ground; state = st; pieces = pieces; into = h.ends; eligible = eligible }
   where
-    here : Agrees net (values_of s) ps
+    here : AgreeWith net (values_of s) ps
     here = reading.agrees net (values_of s) st.at_bounds ps pieces.each
 
     eligible : IsEligible net real (values_of s) entry.enter
@@ -50,7 +51,7 @@ given net real s ps entry others ground st pieces h = record { ground = ground; 
         (here.marks entry.enter (omega (arith, h.eligible.is_open.0, ground.few)) (lies_touch (nodes_of ps) (graph_of (ends_at net.arcs) entry.enter) h.ends)) here.potentials h.eligible
 
 module _ (net : Network) (real : ℕ) (s : State) (ps : List PieceLists) (entry : Entry) (g : Given net real s ps entry) (others : List PieceLists) (h : IsAfter net real ps entry others) where
-  pub here : Agrees net (values_of s) ps
+  pub here : AgreeWith net (values_of s) ps
   here = reading.agrees net (values_of s) g.state.at_bounds ps g.pieces.each
 
   pub leave_in : IsIn entry.leave (entry.enter ∷ basics_of ps)

@@ -28,7 +28,7 @@ use Rattle.np_model.specs.Basis.States.{State, Values, values_of, price, StandsA
 use Rattle.np_model.specs.Basis.Sound.{bound_at, values_in, IsSound}
 use Rattle.np_model.specs.Rows.Extra.{Extra, OneEnd, Round, IsExtra, IsOnRound, Hangs, Leads}
 use Rattle.np_model.specs.Rows.Potentials.{across, PotentialsFit, FitsRows}
-use Rattle.np_basis.specs.Laws.{PiecesAreSound}
+use Rattle.np_basis.specs.Laws.{PiecesAreSound, AgreeWith, PiecesAgree, RowsAreLocal}
 use Rattle.np_basis.proofs.Basics.{basics_hold, decide_basic, zipped}
 use Rattle.np_basis.proofs.Trees.{same_ends}
 
@@ -108,11 +108,6 @@ bound_stands a marked.Basic amount s = record {}
 
 -- ---- pieces of a state agree with it
 
-pub record Agrees (net : Network) (s : Values) (ps : List PieceLists) : Type 0 where
-  pub marks : (a : ℕ) → a < length net.arcs → Touches (nodes_of ps) (graph_of (ends_at net.arcs) a) → (values_in net ps).mark a ≡ s.mark a
-  pub flows : (a : ℕ) → a < length net.arcs → Touches (nodes_of ps) (graph_of (ends_at net.arcs) a) → (values_in net ps).flow a ≡ s.flow a
-  pub potentials : (v : ℕ) → IsIn v (nodes_of ps) → (values_in net ps).potential v ≡ s.potential v
-
 pub map_map : {A B C : Type 0} (f : A → B) (g : B → C) (xs : List A) → map g (map f xs) ≡ map (λ x. g (f x)) xs
 map_map f g [] = refl
 map_map f g (x ∷ xs) = ap (λ t. g (f x) ∷ t) (map_map f g xs)
@@ -181,7 +176,7 @@ module _ (net : Network) (s : Values) (stands : (a : ℕ) → a < length net.arc
       let k = in_flat_of (λ (p : PieceLists). p.nodes) ps f.entry f.is_in in
       f.is ∙ (pieces k.0 k.1).read_off.potentials f.entry k.2 ∙ ap s.potential f.key
 
-  pub agrees : Agrees net s ps
+  pub agrees : AgreeWith net s ps
   agrees = record { marks = agree_mark; flows = agree_flow; potentials = agree_potential }
 
 -- ---- prices and rows by the potentials of the nodes alone
@@ -274,3 +269,9 @@ pieces_are_sound net s pieces st each apart = record {
   apart = apart;
   one_mark = λ p q m k i j x y e. (each p i).read_off.marks m x ∙ ap (values_of s).mark e ∙ sym ((each q j).read_off.marks k y);
 }
+
+pub pieces_agree : PiecesAgree
+pieces_agree net s ps stands pieces = agrees net s stands ps pieces
+
+pub rows_are_local : RowsAreLocal
+rows_are_local ends cost nodes arcs p q lie same fit = rows_same ends cost nodes arcs lie p q same fit

@@ -18,7 +18,8 @@ use Rattle.np_model.specs.Basis.Pieces.{PieceLists, nodes_in, basics_in, nodes_o
 use Rattle.np_model.specs.Basis.Sound.{HoldEnds}
 use Rattle.np_model.specs.Basis.States.{IsPartOf}
 use Rattle.np_basis.specs.Laws.{HasSoundArcs}
-use Rattle.np_basis.specs.PivotLaws.{AreInNet, MayEnter, IsDirectionOf, LinksBoth, AreNeededFor, AreBasicAfter, TreesAfter, PartAfterExists, TwoRoots}
+use Rattle.np_basis.specs.PivotLaws.{AreInNet, MayEnter, TreesAfter, PartAfterExists, TwoRoots}
+use Rattle.np_model.specs.Basis.Needed.{IsDirectionOf, LinksBoth, AreNeededFor, AreBasicAfter}
 use Rattle.np_basis.proofs.Ascending.{rises, ascends_once, Sorted, sort}
 use Rattle.np_basis.proofs.Cutting.{same_members}
 use Rattle.np_basis.proofs.Directions as directions

@@ -19,7 +19,8 @@ use Rattle.np_model.specs.Basis.Pieces.{PieceLists, nodes_in, basics_in, nodes_o
 use Rattle.np_model.specs.Basis.Sound.{values_in, AreSound, HoldEnds}
 use Rattle.np_model.specs.Basis.States.{price}
 use Rattle.np_model.proofs.FullNets.{real_at, artificial_at}
-use Rattle.np_basis.specs.PivotLaws.{HasRealArcs, AreInNet, MayEnter, IsDirectionOf, ComesToBound, NoRayAtNonnegativeCosts, NoRayInStageOne, MoveInStageOne}
+use Rattle.np_basis.specs.PivotLaws.{HasRealArcs, AreInNet, MayEnter, ComesToBound, NoRayAtNonnegativeCosts, NoRayInStageOne, MoveInStageOne}
+use Rattle.np_model.specs.Basis.Needed.{IsDirectionOf}
 use Rattle.np_basis.proofs.Costs as costs
 use Rattle.np_basis.proofs.Directions as directions
 use Rattle.np_basis.proofs.Fulls.{length_full, full_net_is_sound}

@@ -22,8 +22,9 @@ use Rattle.np_basis.proofs.Held.{arc_number, arc_below}
 use Rattle.np_basis.proofs.Pivoting as pivoting
 use Rattle.np_basis.proofs.Pivoting.{mark_after_same, unmoved, Given}
 use Rattle.np_basis.proofs.Reading as reading
-use Rattle.np_basis.proofs.Reading.{Agrees, in_flat_of, price_same, within_at, pieces_are_sound}
+use Rattle.np_basis.proofs.Reading.{in_flat_of, price_same, within_at, pieces_are_sound}
 use Rattle.np_basis.proofs.Sound.{touch_wider, touch_more}
+use Rattle.np_basis.specs.Laws.{AgreeWith}
 
 -- ---- moves and eligible arcs depend on the values at hand alone
 
@@ -52,10 +53,10 @@ eligible_same net real s r ns a l e f h = record {
 
 module _ (net : Network) (real : ℕ) (s : State) (ps : List PieceLists) (entry : Entry) (g : Given net real s ps entry) (after : State) (v : IsPivot net real s entry after)
     (others : List PieceLists) (done : ArePiecesAfter net ps after others) where
-  here : Agrees net (values_of s) ps
+  here : AgreeWith net (values_of s) ps
   here = reading.agrees net (values_of s) g.state.at_bounds ps g.pieces.each
 
-  there : Agrees net (values_of after) others
+  there : AgreeWith net (values_of after) others
   there = reading.agrees net (values_of after) v.is_state.at_bounds others done.pieces_of.each
 
   mark_here : (a : ℕ) → IsIn a (entry.enter ∷ basics_of ps) → (values_in net ps).mark a ≡ (values_of s).mark a

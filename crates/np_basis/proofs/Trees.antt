@@ -21,7 +21,8 @@ use Rattle.np_model.specs.Basis.Graphs.{ratios, graph_ends, graph_of, no_arc, en
 use Rattle.np_model.specs.Basis.Pieces.{PieceLists, nodes_in, basics_in}
 use Rattle.np_model.specs.Basis.Sound.{IsInNet}
 use Rattle.np_model.proofs.Coefficients.{coefficient_from, coefficient_to, coefficient_off}
-use Rattle.np_basis.specs.Laws.{HasSoundArcs, ArePriced, pull_on, PotentialsExist, PotentialsAreUnique, WeightsExist}
+use Rattle.np_basis.specs.Laws.{HasSoundArcs, pull_on, PotentialsExist, PotentialsAreUnique, WeightsExist}
+use Rattle.np_model.specs.Rows.Potentials.{ArePriced}
 
 -- ---- ends, coefficients and reduced costs
 

@@ -1,8 +1,9 @@
 -- The laws of states, of their pieces, and of the rows of a piece.
 use Rattle.std.specs.Prelude.{◌≡◌, ◌≢◌, ℕ, ◌+◌, ◌<◌, List, [], ◌∷◌, length, Ok}
 use Rattle.std.specs.List.{All}
-use Rattle.gain_graphs.specs.Arcs.{IsIn}
+use Rattle.gain_graphs.specs.Arcs.{IsIn, Touches}
 use Rattle.gain_graphs.specs.Cycles.{IsNoLoop}
+use Rattle.gain_graphs.specs.QuasiTrees.{LiesIn}
 use Rattle.np_frac.specs.Ratio.{Ratio, zero_ratio, one_ratio, ◌*ᵣ◌, ◌<ᵣ◌, total}
 use Rattle.np_frac.specs.Fits.{Fits}
 use Rattle.np_model.specs.declared.arc.Ends.{Ends}
@@ -12,20 +13,21 @@ use Rattle.np_model.specs.declared.arc.NetArc.{NetArc}
 use Rattle.np_model.specs.declared.network.FullNet.{FullNet}
 use Rattle.np_model.specs.declared.phase.Phase.{Phase}
 use Rattle.np_model.specs.declared.phase.Phase.TheVariants.{One}
-use Rattle.np_model.specs.Network.Arcs.{coefficient, tail_of, head_of, reduced_cost}
+use Rattle.np_model.specs.Network.Arcs.{coefficient}
 use Rattle.np_model.specs.Network.Flows.{Network, at}
 use Rattle.np_model.specs.Network.Duality.{reduced}
 use Rattle.np_model.specs.Network.Nets.{IsSoundArc}
 use Rattle.np_model.specs.Basis.Artificial.{AreArtificial}
-use Rattle.np_model.specs.Basis.Graphs.{graph_of, arc_at, ends_at, cost_at}
+use Rattle.np_model.specs.Basis.Graphs.{graph_of, arc_at, ends_at, cost_at, ratios}
 use Rattle.np_model.specs.Basis.Phases.{with_artificial, phase_net}
-use Rattle.np_model.specs.Basis.Pieces.{PieceLists, nodes_in, basics_in, HasShape, AreApart}
-use Rattle.np_model.specs.Basis.States.{State, Values, values_of, price, IsPart, IsPieceOf, IsState}
+use Rattle.np_model.specs.Basis.Pieces.{PieceLists, nodes_in, basics_in, HasShape, AreApart, nodes_of}
+use Rattle.np_model.specs.Basis.States.{State, Values, values_of, price, IsPart, IsPieceOf, IsState, StandsAt}
 use Rattle.np_model.specs.Basis.Starts.{artificial_ends, start_state, start_net, start_piece, ResidualsFit}
-use Rattle.np_model.specs.Basis.Sound.{IsInNet, AreSound}
+use Rattle.np_model.specs.Basis.Sound.{IsInNet, AreSound, values_in}
 use Rattle.np_model.specs.Rows.Extra.{Extra, Round, IsExtra}
 use Rattle.np_model.specs.Rows.Potentials as potentials
 use Rattle.np_model.specs.Rows.Directions as directions
+use Rattle.np_model.specs.Rows.Potentials.{ArePriced}
 
 -- the arcs of the network are those of a valid one
 abbrev pub HasSoundArcs : Network → Type 0
@@ -87,12 +89,19 @@ abbrev pub PiecesAreSound : Type 0
 PiecesAreSound = (net : Network) (s : State) (pieces : List PieceLists) → IsState net s
     → ((p : PieceLists) → IsIn p pieces → IsPieceOf net (values_of s) p) → AreApart pieces → AreSound net pieces
 
--- ---- potentials and node weights of a piece
+-- pieces say what these values say: of the arcs that touch them, and of their nodes
+pub record AgreeWith (net : Network) (s : Values) (pieces : List PieceLists) : Type 0 where
+  pub marks : (a : ℕ) → a < length net.arcs → Touches (nodes_of pieces) (graph_of (ends_at net.arcs) a) → (values_in net pieces).mark a ≡ s.mark a
+  pub flows : (a : ℕ) → a < length net.arcs → Touches (nodes_of pieces) (graph_of (ends_at net.arcs) a) → (values_in net pieces).flow a ≡ s.flow a
+  pub potentials : (v : ℕ) → IsIn v (nodes_of pieces) → (values_in net pieces).potential v ≡ s.potential v
 
--- with these costs by number and these potentials each of these arcs has the reduced cost 0
-abbrev pub ArePriced : (ℕ → Ends) → (ℕ → Ratio) → List ℕ → (ℕ → Ratio) → Type 0
-ArePriced ends cost arcs potential =
-    (a : ℕ) → IsIn a arcs → reduced_cost (ends a) (cost a) (potential (tail_of (ends a))) (potential (head_of (ends a))) ≡ zero_ratio
+-- pieces of what these values say do so, where each arc outside the basis stands at its bound
+abbrev pub PiecesAgree : Type 0
+PiecesAgree = (net : Network) (s : Values) (pieces : List PieceLists)
+    → ((a : ℕ) → a < length net.arcs → StandsAt (arc_at net.arcs a) (s.mark a) (s.flow a))
+    → ((p : PieceLists) → IsIn p pieces → IsPieceOf net s p) → AgreeWith net s pieces
+
+-- ---- potentials and node weights of a piece
 
 -- whatever its arcs cost, a piece has potentials
 abbrev pub PotentialsExist : Type 0
@@ -104,6 +113,12 @@ abbrev pub PotentialsAreUnique : Type 0
 PotentialsAreUnique = (net : Network) (piece : PieceLists) (cost p q : ℕ → Ratio) → IsInNet net piece
     → ArePriced (ends_at net.arcs) cost (basics_in piece) p → ArePriced (ends_at net.arcs) cost (basics_in piece) q
     → (v : ℕ) → IsIn v (nodes_in piece) → p v ≡ q v
+
+-- whether an operation of their rows overflows depends on the potentials of the nodes that the arcs have alone
+abbrev pub RowsAreLocal : Type 0
+RowsAreLocal = (ends : ℕ → Ends) (cost : ℕ → Ratio) (nodes arcs : List ℕ) (p q : ℕ → Ratio)
+    → ((a : ℕ) → IsIn a arcs → LiesIn ratios nodes (graph_of ends a)) → ((v : ℕ) → IsIn v nodes → p v ≡ q v)
+    → potentials.PotentialsFit ends cost arcs p → potentials.PotentialsFit ends cost arcs q
 
 -- the sum of node weights, each times the coefficient of the arc at its node
 abbrev pub pull_on : List ℕ → Ends → (ℕ → Ratio) → Ratio

@@ -1,10 +1,10 @@
 -- The laws of directions and of pivots.
-use Rattle.std.specs.Prelude.{◌≡◌, ◌≢◌, ◌⊎◌, ◌↔◌, ℕ, ◌<◌, ◌≤◌, Bool, true, false, Option, Some, None, List, [], ◌∷◌, map, length}
-use Rattle.gain_graphs.specs.Arcs.{IsIn, AreDistinct, Touches, AreJoined}
+use Rattle.std.specs.Prelude.{◌≡◌, ◌≢◌, ◌⊎◌, ◌↔◌, ℕ, ◌<◌, ◌≤◌, Bool, true, false, List, [], ◌∷◌, map, length}
+use Rattle.gain_graphs.specs.Arcs.{IsIn, Touches, AreJoined}
 use Rattle.gain_graphs.specs.QuasiTrees.{IsQuasiTree}
 use Rattle.np_frac.specs.Ratio.{Ratio, zero_ratio, one_ratio, negated, ◌≤ᵣ◌, ◌<ᵣ◌}
 use Rattle.np_model.specs.declared.arc.Ends.{Ends}
-use Rattle.np_model.specs.declared.arc.Ends.TheVariants.{Link, Drain, Feed}
+use Rattle.np_model.specs.declared.arc.Ends.TheVariants.{Drain}
 use Rattle.np_model.specs.declared.arc.Upper.TheVariants.{Infinite}
 use Rattle.np_model.specs.declared.arc.NetArc.{NetArc}
 use Rattle.np_model.specs.declared.log.Entry.{Entry}
@@ -18,10 +18,11 @@ use Rattle.np_model.specs.Basis.Graphs.{ratios, graph_ends, graph_of, arc_at, en
 use Rattle.np_model.specs.Basis.Phases.{phase_net, real_arcs}
 use Rattle.np_model.specs.Basis.Pieces.{PieceLists, nodes_in, nodes_of, basics_of, AreApart}
 use Rattle.np_model.specs.Basis.States.{State, Values, values_of, basics, IsPartOf, IsForest, IsPieceOf, IsState}
-use Rattle.np_model.specs.Basis.Moves.{sign, KeepsBounds, IsDirection, IsMove, IsEligible}
+use Rattle.np_model.specs.Basis.Moves.{sign, KeepsBounds, IsDirection, IsEligible}
 use Rattle.np_model.specs.Basis.Pivots.{node_numbers, arc_numbers, IsPivot}
 use Rattle.np_model.specs.Basis.Sound.{values_in, IsInNet, AreSound, AreOneOrTwo, AreInOrder, HoldEnds, IsAfter}
 use Rattle.np_basis.specs.Laws.{HasSoundArcs}
+use Rattle.np_model.specs.Basis.Needed.{AreNeededFor, IsDirectionOf, IsMoveOf, AreBasicAfter}
 
 -- ---- directions of pieces
 
@@ -36,19 +37,10 @@ pub record MayEnter (net : Network) (pieces : List PieceLists) (enter : ℕ) : T
   pub ends : HoldEnds pieces (ends_at net.arcs enter)
   pub not_basic : ¬ IsIn enter (basics_of pieces)
 
--- the first piece, and a second one where there is one
-abbrev pub lists_of : {A : Type 0} → (A → PieceLists) → PieceLists → Option A → List PieceLists
-lists_of lists first None = first ∷ []
-lists_of lists first (Some second) = first ∷ lists second ∷ []
-
 -- an arc enters upwards with an amount of 1, and downwards with -1
 abbrev pub unit_of : Bool → Ratio
 unit_of true = one_ratio
 unit_of false = negated one_ratio
-
--- a direction over the nodes of the pieces, on the entering arc and their basic arcs
-abbrev pub IsDirectionOf : Network → List PieceLists → ℕ → Ratio → (ℕ → Ratio) → Type 0
-IsDirectionOf net pieces enter by d = IsDirection net (nodes_of pieces) (enter ∷ basics_of pieces) (basics_of pieces) enter by d
 
 -- an arc that may enter has a direction with any amount on it
 abbrev pub DirectionExists : Type 0
@@ -101,11 +93,6 @@ DirectionIsLocal = (net : Network) (s : State) (pieces : List PieceLists) (enter
     → ArePiecesOf net (values_of s) pieces → MayEnter net pieces enter → IsDirectionIn net (values_of s) enter by d → IsLocal net pieces enter by d
 
 -- ---- moves
-
--- a move of the pieces: over their nodes, the entering arc and their basic arcs
-abbrev pub IsMoveOf : Network → List PieceLists → Entry → (ℕ → Ratio) → Ratio → Type 0
-IsMoveOf net pieces entry d t =
-    IsMove net (values_in net pieces) (nodes_of pieces) (entry.enter ∷ basics_of pieces) (basics_of pieces) entry d t
 
 -- a bound stands ahead of an arc that moves by d: its lower bound where it falls, and its upper one, if it has one, where it rises
 abbrev pub HasBoundAhead : NetArc → Ratio → Type 0
@@ -164,19 +151,6 @@ PivotReplaces = (net : Network) (real : ℕ) (s : State) (entry : Entry) (after 
 
 -- ---- the pieces that an arc needs
 
--- a link with one end among these nodes and the other among those
-abbrev pub LinksBoth : List ℕ → List ℕ → Ends → Type 0
-LinksBoth ns ms (Link from to gain) = (IsIn from ns × IsIn to ms) ⊎ (IsIn from ms × IsIn to ns)
-LinksBoth ns ms (Drain at) = ⊥
-LinksBoth ns ms (Feed at) = ⊥
-
--- one piece that holds the ends of the arc, or two that it links
-abbrev pub AreNeededFor : List PieceLists → Ends → Type 0
-AreNeededFor [] ends = ⊥
-AreNeededFor (p ∷ []) ends = HoldEnds (p ∷ []) ends
-AreNeededFor (p ∷ q ∷ []) ends = LinksBoth (nodes_in p) (nodes_in q) ends
-AreNeededFor (p ∷ q ∷ r ∷ rest) ends = ⊥
-
 -- one or two pieces of what these values say that are needed for these ends, and hold them
 pub record Needed (net : Network) (s : Values) (ends : Ends) : Type 0 where
   pub pieces : List PieceLists
@@ -206,11 +180,6 @@ AfterIsUnique = (net : Network) (real : ℕ) (s : State) (entry : Entry) (pieces
     → ArePiecesOf net (values_of s) pieces → IsAfter net real pieces entry others → IsAfter net real pieces entry same → others ≡ same
 
 -- ---- the exchange of pieces, with no state at hand
-
--- the basic arcs of the pieces, after this arc came in and one of them went out
-pub record AreBasicAfter (pieces : List PieceLists) (enter leave : ℕ) (now : List ℕ) : Type 0 where
-  pub once : AreDistinct now
-  pub are : (a : ℕ) → IsIn a now ↔ (IsIn a (enter ∷ basics_of pieces) × (a ≢ leave))
 
 -- where the direction moves the leaving arc, each part of these arcs with a node of the pieces is a quasi-tree
 abbrev pub TreesAfter : Type 0

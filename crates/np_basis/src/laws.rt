@@ -1,6 +1,6 @@
 //! The laws of states, of their pieces and of the rows of a piece, as the clauses of functions that do nothing.
 
-ghost use Rattle.np_basis.specs.Laws.{FullIsSound, FullNetIsSound, StartIsArtificial, StartIsState, StartIsSingles, SingleIsPart, StartPieceHasShape, StartPieceIsPiece, PieceExists, PieceIsUnique, PiecesAreSound, PotentialsExist, PotentialsAreUnique, WeightsExist, PriceIsReduced, LinksAreNoLoops, ExtraExists, ExtraIsUnique, PotentialsDivisor, DirectionsDivisor, StateExample, RoundExample};
+ghost use Rattle.np_basis.specs.Laws.{FullIsSound, FullNetIsSound, StartIsArtificial, StartIsState, StartIsSingles, SingleIsPart, StartPieceHasShape, StartPieceIsPiece, PieceExists, PieceIsUnique, PiecesAreSound, PiecesAgree, RowsAreLocal, PotentialsExist, PotentialsAreUnique, WeightsExist, PriceIsReduced, LinksAreNoLoops, ExtraExists, ExtraIsUnique, PotentialsDivisor, DirectionsDivisor, StateExample, RoundExample};
 ghost use Rattle.np_basis.specs.PivotLaws.{DirectionExists, DirectionIsUnique, WholeDirectionExists, WholeDirectionIsUnique, DirectionIsLocal, MoveExists, MoveIsUnique, OthersAreKept, PiecesHold, AtMostTwo, AfterIsExactly, PivotReplaces, PivotIsUnique, AfterIsUnique, TreesAfter, PartAfterExists, TwoRoots, NoRayAtNonnegativeCosts, NoRayInStageOne, MoveInStageOne, DirectionIsRay, HasPivot};
 
 /// A full network is valid in each phase: with sound real arcs and an artificial arc at each node, all its arcs are sound. So they are in
@@ -21,17 +21,21 @@ pub fn start()
     ensures piece { StartPieceIsPiece }
 {}
 
-/// Each node lies in exactly one piece of what a state says, and pieces of a state that share no node are sound.
+/// Each node lies in exactly one piece of what a state says, and pieces of a state that share no node are sound. Pieces say of their nodes
+/// and of the arcs that touch them what the state says.
 pub fn pieces()
     ensures exist { PieceExists }
     ensures unique { PieceIsUnique }
     ensures sound { PiecesAreSound }
+    ensures agree { PiecesAgree }
 {}
 
-/// For any costs a piece has potentials with which each of its basic arcs has the reduced cost 0, and one list of them on its nodes.
+/// For any costs a piece has potentials with which each of its basic arcs has the reduced cost 0, and one list of them on its nodes. Whether
+/// an operation of their rows overflows depends on the potentials of its nodes alone.
 pub fn potentials()
     ensures exist { PotentialsExist }
     ensures unique { PotentialsAreUnique }
+    ensures local { RowsAreLocal }
 {}
 
 /// Each basic arc of a piece has node weights whose sum, each times the arc's incidence coefficient at its node, is 1 on it and 0 on

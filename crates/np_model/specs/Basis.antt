@@ -8,3 +8,5 @@ pub mod Starts
 pub mod Moves
 pub mod Pivots
 pub mod Sound
+pub mod Needed
+pub mod Attempts

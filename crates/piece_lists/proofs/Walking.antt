@@ -16,7 +16,8 @@ use Rattle.np_model.specs.declared.arc.Ends.{Ends}
 use Rattle.np_model.specs.Basis.Pieces.{beside}
 use Rattle.np_model.specs.Rows.Arcs.{all_of, flow_after}
 use Rattle.tree_search.specs.Places.{numbers_of_arcs}
-use Rattle.piece_lists.specs.Flowing.{numbers_of_steps, new_flows, AreFlowsOf, IsMoved}
+use Rattle.piece_lists.specs.Flowing.{AreFlowsOf, IsMoved}
+use Rattle.np_model.specs.Rows.Moving.{numbers_of_steps, new_flows}
 use Rattle.piece_lists.specs.Steps.{AreMoved}
 use Rattle.piece_lists.proofs.Merging.{ascends_drop, head_below}
 

@@ -1,25 +1,16 @@
 -- The basic arcs after a pivot, with their flows. (This project's own.)
-use Rattle.std.specs.Prelude.{◌≡◌, ◌≢◌, ◌↔◌, ℕ, List, ◌∷◌, map, Result, Ok, Err, ⊤}
+use Rattle.std.specs.Prelude.{◌≡◌, ◌≢◌, ◌↔◌, ℕ, List, ◌∷◌, Ok, Err, ⊤}
 use Rattle.std.specs.Result.{IsOk}
 use Rattle.std.specs.List.Sorted.{IsStrictlyIncreasing}
 use Rattle.gain_graphs.specs.Arcs.{IsIn}
-use Rattle.np_frac.specs.Ratio.{Ratio, zero_ratio}
+use Rattle.np_frac.specs.Ratio.{Ratio}
 use Rattle.np_frac.specs.Fits.{Fits}
-use Rattle.np_frac.specs.declared.frac.Past.{Past}
 use Rattle.np_model.specs.declared.arc.Ends.{Ends}
-use Rattle.np_model.specs.Basis.Pieces.{beside}
-use Rattle.np_model.specs.Rows.Arcs.{all_of, flow_after}
+use Rattle.np_model.specs.Rows.Arcs.{flow_after}
 use Rattle.tree_search.specs.Places.{numbers_of_arcs}
 use Rattle.piece_lists.specs.declared.flowing.FlowRefusal.{FlowRefusal}
 use Rattle.piece_lists.specs.declared.flowing.FlowRefusal.TheVariants as refusal
-
--- the numbers of the arcs that move
-abbrev pub numbers_of_steps : List (ℕ × Ratio) → List ℕ
-numbers_of_steps steps = map (λ s. s.0) steps
-
--- row A6: the new flows of the arcs that move, in ascending number, or the first operation that overflows
-abbrev pub new_flows : List (ℕ × Ratio) → Ratio → (ℕ → Ratio) → Result (List Ratio) Past
-new_flows steps t flow = all_of (λ a. flow_after t (flow a) (beside zero_ratio steps a)) (numbers_of_steps steps)
+use Rattle.np_model.specs.Rows.Moving.{numbers_of_steps, new_flows}
 
 -- these are the flows of the arcs, by their numbers
 abbrev pub AreFlowsOf : (ℕ → Ratio) → List (ℕ × Ends × Ratio) → Type 0

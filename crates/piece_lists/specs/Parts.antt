@@ -8,8 +8,8 @@ use Rattle.np_model.specs.declared.arc.Ends.TheVariants.{Link, Drain, Feed}
 use Rattle.np_model.specs.declared.log.Mark.{Mark}
 use Rattle.np_model.specs.Basis.Graphs.{graph_ends}
 use Rattle.np_model.specs.Basis.Pieces.{PieceLists}
+use Rattle.np_model.specs.Basis.Needed.{lists_held}
 use Rattle.np_model.specs.declared.piece.Hands.{Hands}
-use Rattle.np_model.specs.declared.piece.Hands.TheVariants.{One, Two}
 use Rattle.quasi_tree.specs.Store.{Store}
 use Rattle.tree_search.specs.Places.{numbers_of_nodes, ends_of_arcs}
 
@@ -56,5 +56,4 @@ pub record AreFound (ends : ℕ → Ends) (nodes : List (ℕ × Ratio)) (basics 
 
 -- the lists of one piece or two
 abbrev pub lists_in : Hands Store → List PieceLists
-lists_in (One piece) = piece.lists ∷ []
-lists_in (Two piece other) = piece.lists ∷ other.lists ∷ []
+lists_in = lists_held (λ (s : Store). s.lists)

@@ -4,7 +4,8 @@ use Rattle.std.specs.Result.{IsOk}
 use Rattle.std.specs.List.{AllZip}
 use Rattle.np_frac.specs.Ratio.{Ratio}
 use Rattle.np_model.specs.declared.arc.Ends.{Ends}
-use Rattle.piece_lists.specs.Flowing.{IsMoved, AreFlowsOf, new_flows}
+use Rattle.piece_lists.specs.Flowing.{IsMoved, AreFlowsOf}
+use Rattle.np_model.specs.Rows.Moving.{new_flows}
 
 -- each of the arcs after the step, in order, with no operation that overflows
 pub record AreMoved (arcs : List (ℕ × Ends × Ratio)) (steps : List (ℕ × Ratio)) (t : Ratio) (after : List (ℕ × Ends × Ratio)) : Type 0 where

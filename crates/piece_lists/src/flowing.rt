@@ -6,7 +6,8 @@ ghost use Rattle.gain_graphs.specs.Arcs.{IsIn};
 ghost use Rattle.np_frac.specs.Fits.{Fits};
 ghost use Rattle.np_model.specs.Rows.Arcs.{flow_after};
 ghost use Rattle.tree_search.specs.Places.{numbers_of_arcs};
-ghost use Rattle.piece_lists.specs.Flowing.{numbers_of_steps, AreFlowsAfter, IsFirstPast};
+ghost use Rattle.piece_lists.specs.Flowing.{AreFlowsAfter, IsFirstPast};
+ghost use Rattle.np_model.specs.Rows.Moving.{numbers_of_steps};
 ghost use Rattle.piece_lists.specs.Steps.{AreMoved, IsAmountAt};
 
 use crate::numbered::{merged, without};

@@ -20,10 +20,12 @@ use Rattle.np_model.specs.Basis.Pieces.{PieceLists, basics_of, beside}
 use Rattle.np_model.specs.Basis.Sound.{values_in}
 use Rattle.np_model.specs.Basis.States.{Values, StandsAt}
 use Rattle.np_model.specs.Rows.Arcs.{limit_of}
-use Rattle.ratio_test.specs.Answers.{IsGreatest, IsUnbounded, IsRatio}
+use Rattle.ratio_test.specs.Answers.{IsGreatest, IsRatio}
+use Rattle.np_model.specs.Basis.Attempts.{IsUnbounded}
 use Rattle.ratio_test.specs.Asked.{AreWithin, IsOutside, IsAlong, far_bound}
 use Rattle.np_basis.specs.PivotLaws.{unit_of}
-use Rattle.ratio_test.specs.Limits.{moving, bound_ahead, IsLimited, IsLimit}
+use Rattle.ratio_test.specs.Limits.{bound_ahead, IsLimited, IsLimit}
+use Rattle.np_model.specs.Rows.Moving.{numbers_of_steps}
 use Rattle.ratio_test.specs.Steps.Soonest.{IsSoonest, IsSoonestOf, answer_of}
 use Rattle.ratio_test.specs.declared.stop.Stop.{Stop}
 use Rattle.ratio_test.specs.declared.answer.RatioAnswer.TheVariants.{Flip, Leave}
@@ -118,8 +120,8 @@ stopped net pieces direction stop unit bound h = by (stop.arc == direction.enter
 pub ratio_is : (phase : Phase) (full : FullNet) (pieces : List PieceLists) (direction : Direction) (best : Option Stop)
     → let net = phase_net phase full in let s = values_in net pieces in let d = beside zero_ratio direction.steps in
     AreWithin net pieces → IsOutside net pieces direction.enter → IsAlong pieces direction
-    → ((a : ℕ) → IsIn a (moving direction.steps) → IsOk (limit_of (arc_at net.arcs a) (s.flow a) (d a)))
-    → IsSoonestOf (λ a. limit_of (arc_at net.arcs a) (s.flow a) (d a)) d direction.enter (moving direction.steps) best
+    → ((a : ℕ) → IsIn a (numbers_of_steps direction.steps) → IsOk (limit_of (arc_at net.arcs a) (s.flow a) (d a)))
+    → IsSoonestOf (λ a. limit_of (arc_at net.arcs a) (s.flow a) (d a)) d direction.enter (numbers_of_steps direction.steps) best
     → IsRatio net pieces direction (answer_of direction.enter best)
 ratio_is phase full pieces direction best w out along each h = by best h
   where
@@ -127,15 +129,15 @@ ratio_is phase full pieces direction best w out along each h = by best h
     within a (inl e) = rw e (enter_within phase full pieces direction.enter w out)
     within a (inr i) = basic_within (phase_net phase full) pieces w a i
 
-    move : (a : ℕ) → IsIn a (moving direction.steps) → beside zero_ratio direction.steps a ≢ zero_ratio
+    move : (a : ℕ) → IsIn a (numbers_of_steps direction.steps) → beside zero_ratio direction.steps a ≢ zero_ratio
     move a i e = let x = beside_entry zero_ratio direction.steps a i in along.not_zero x.entry x.stands (sym x.value ∙ e)
 
-    or_rests : (a : ℕ) → IsIn a (moving direction.steps) ⊎ (beside zero_ratio direction.steps a ≡ zero_ratio)
+    or_rests : (a : ℕ) → IsIn a (numbers_of_steps direction.steps) ⊎ (beside zero_ratio direction.steps a ≡ zero_ratio)
     or_rests a = elim (stands_or direction.steps a) [ inl i ↦ inl i | inr n ↦ inr (beside_absent zero_ratio direction.steps a n) ]
 
     by : (best : Option Stop)
-        → IsSoonestOf (λ a. limit_of (arc_at (phase_net phase full).arcs a) ((values_in (phase_net phase full) pieces).flow a) (beside zero_ratio direction.steps a)) (beside zero_ratio direction.steps) direction.enter (moving direction.steps) best
+        → IsSoonestOf (λ a. limit_of (arc_at (phase_net phase full).arcs a) ((values_in (phase_net phase full) pieces).flow a) (beside zero_ratio direction.steps a)) (beside zero_ratio direction.steps) direction.enter (numbers_of_steps direction.steps) best
         → IsRatio (phase_net phase full) pieces direction (answer_of direction.enter best)
-    by None h = unbounded (phase_net phase full) (values_in (phase_net phase full) pieces) (direction.enter ∷ basics_of pieces) (moving direction.steps) direction.enter (beside zero_ratio direction.steps) within along.on_arcs move or_rests h
+    by None h = unbounded (phase_net phase full) (values_in (phase_net phase full) pieces) (direction.enter ∷ basics_of pieces) (numbers_of_steps direction.steps) direction.enter (beside zero_ratio direction.steps) within along.on_arcs move or_rests h
     by (Some stop) h = stopped (phase_net phase full) pieces direction stop along.enters h.bound
-        (greatest (phase_net phase full) (values_in (phase_net phase full) pieces) (direction.enter ∷ basics_of pieces) (moving direction.steps) direction.enter (beside zero_ratio direction.steps) within along.on_arcs move or_rests each stop h)
+        (greatest (phase_net phase full) (values_in (phase_net phase full) pieces) (direction.enter ∷ basics_of pieces) (numbers_of_steps direction.steps) direction.enter (beside zero_ratio direction.steps) within along.on_arcs move or_rests each stop h)

@@ -1,14 +1,11 @@
 -- What the ratio test answers. The ratio test is that of Ahuja, Magnanti and Orlin, Network Flows, chapters 11 and 15; the least number
 -- among the arcs that stop the flows is this project's own.
-use Rattle.std.specs.Prelude.{◌≡◌, ◌≢◌, ◌⊎◌, ℕ, ◌≤◌, List, ◌∷◌, Err}
+use Rattle.std.specs.Prelude.{◌≡◌, ◌≢◌, ◌⊎◌, ℕ, ◌≤◌, List, ◌∷◌}
 use Rattle.std.specs.Result.{IsOk}
 use Rattle.gain_graphs.specs.Arcs.{IsIn}
 use Rattle.np_frac.specs.Ratio.{Ratio, zero_ratio, ◌≤ᵣ◌}
 use Rattle.np_model.specs.declared.log.Mark.{Mark}
 use Rattle.np_model.specs.declared.piece.Direction.{Direction}
-use Rattle.np_model.specs.declared.rows.Overflow.{Overflow}
-use Rattle.np_model.specs.declared.rows.Place.TheVariants.{Arc}
-use Rattle.np_model.specs.declared.rows.Row.TheVariants.{A5}
 use Rattle.np_model.specs.Network.Flows.{Network}
 use Rattle.np_model.specs.Basis.Moves.{KeepsBounds, Stops}
 use Rattle.np_model.specs.Basis.Pieces.{PieceLists, basics_of, beside}
@@ -17,7 +14,8 @@ use Rattle.np_model.specs.Basis.States.{Values}
 use Rattle.ratio_test.specs.declared.answer.RatioAnswer.{RatioAnswer}
 use Rattle.ratio_test.specs.declared.answer.RatioAnswer.TheVariants.{Flip, Leave, Ray}
 use Rattle.ratio_test.specs.Asked.{far_bound}
-use Rattle.ratio_test.specs.Limits.{limits_of}
+use Rattle.np_model.specs.Rows.Moving.{limits_of}
+use Rattle.np_model.specs.Basis.Attempts.{IsUnbounded}
 
 -- the greatest step along d at which the flows of these arcs keep their bounds, and the arc that stops them there: the entering one where it
 -- does, else the one with the least number among those that do
@@ -27,11 +25,6 @@ pub record IsGreatest (net : Network) (s : Values) (numbers : List ℕ) (enter :
   pub leaves : IsIn leave numbers
   pub stops : Stops net s d t leave leave_at
   pub first : (a : ℕ) (bound : Mark) → IsIn a numbers → Stops net s d t a bound → (leave ≡ enter) ⊎ ((a ≢ enter) × (leave ≤ a))
-
--- the flows keep their bounds at every step along d, and nothing stops them
-pub record IsUnbounded (net : Network) (s : Values) (numbers : List ℕ) (d : ℕ → Ratio) : Type 0 where
-  pub within : (z : Ratio) → zero_ratio ≤ᵣ z → KeepsBounds net s numbers d z
-  pub none_stops : (z : Ratio) (a : ℕ) (bound : Mark) → IsIn a numbers → ¬ Stops net s d z a bound
 
 -- the ratio test over the entering arc and the basic arcs of the pieces
 abbrev pub IsRatio : Network → List PieceLists → Direction → RatioAnswer → Type 0
@@ -45,9 +38,3 @@ IsRatio net pieces direction Ray = IsUnbounded net (values_in net pieces) (direc
 pub record IsAnswer (net : Network) (pieces : List PieceLists) (direction : Direction) (answer : RatioAnswer) : Type 0 where
   pub ratio : IsRatio net pieces direction answer
   pub fits : IsOk (limits_of net (values_in net pieces).flow direction.steps)
-
--- the first operation of row A5 that overflows, told at the entering arc
-pub record IsOverflow (net : Network) (pieces : List PieceLists) (direction : Direction) (overflow : Overflow) : Type 0 where
-  pub row : overflow.row ≡ A5
-  pub place : overflow.place ≡ Arc direction.enter
-  pub past : limits_of net (values_in net pieces).flow direction.steps ≡ Err overflow.past

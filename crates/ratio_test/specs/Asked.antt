@@ -14,7 +14,7 @@ use Rattle.np_model.specs.Basis.Pieces.{PieceLists, basics_of, beside, AreApart}
 use Rattle.np_model.specs.Basis.Sound.{IsInNet, HoldEnds, bound_at, values_in}
 use Rattle.np_model.specs.Basis.States.{StandsAt}
 use Rattle.np_basis.specs.PivotLaws.{unit_of}
-use Rattle.ratio_test.specs.Limits.{moving}
+use Rattle.np_model.specs.Rows.Moving.{numbers_of_steps}
 
 -- pieces of the network that share no node, with flows within bounds
 pub record AreWithin (net : Network) (pieces : List PieceLists) : Type 0 where
@@ -36,7 +36,7 @@ far_bound false = Lower
 
 -- steps in ascending order, none of them 0, on the entering arc and on basic arcs of the pieces
 pub record IsAlong (pieces : List PieceLists) (direction : Direction) : Type 0 where
-  pub ascend : IsStrictlyIncreasing (moving direction.steps)
+  pub ascend : IsStrictlyIncreasing (numbers_of_steps direction.steps)
   pub not_zero : (step : ℕ × Ratio) → IsIn step direction.steps → step.1 ≢ zero_ratio
-  pub on_arcs : (a : ℕ) → IsIn a (moving direction.steps) → (a ≡ direction.enter) ⊎ IsIn a (basics_of pieces)
+  pub on_arcs : (a : ℕ) → IsIn a (numbers_of_steps direction.steps) → (a ≡ direction.enter) ⊎ IsIn a (basics_of pieces)
   pub enters : beside zero_ratio direction.steps direction.enter ≡ unit_of direction.up

@@ -1,25 +1,12 @@
 -- Row A5: how far the flows of the arcs can go along a direction.
-use Rattle.std.specs.Prelude.{◌≡◌, ℕ, if◌then◌else◌, List, map, Option, Some, None, Result}
+use Rattle.std.specs.Prelude.{◌≡◌, if◌then◌else◌, Option, Some, None}
 use Rattle.np_frac.specs.Ratio.{Ratio, zero_ratio, is_below, ◌≤ᵣ◌, ◌+ᵣ◌, ◌*ᵣ◌}
-use Rattle.np_frac.specs.declared.frac.Past.{Past}
 use Rattle.np_model.specs.declared.arc.NetArc.{NetArc}
 use Rattle.np_model.specs.declared.log.Mark.{Mark}
 use Rattle.np_model.specs.declared.log.Mark.TheVariants.{Lower, Upper}
 use Rattle.np_model.specs.Network.Arcs.{IsWithin}
-use Rattle.np_model.specs.Network.Flows.{Network}
-use Rattle.np_model.specs.Basis.Graphs.{arc_at}
 use Rattle.np_model.specs.Basis.Moves.{IsTowards}
-use Rattle.np_model.specs.Basis.Pieces.{beside}
 use Rattle.np_model.specs.Basis.States.{StandsAt}
-use Rattle.np_model.specs.Rows.Arcs.{all_of, limit_of}
-
--- the arcs that have a step, in their order
-abbrev pub moving : List (ℕ × Ratio) → List ℕ
-moving steps = map (λ step. step.0) steps
-
--- row A5: how far the flow of each of these arcs can go, in their order, or the first operation that overflows
-abbrev pub limits_of : Network → (ℕ → Ratio) → List (ℕ × Ratio) → Result (List (Option Ratio)) Past
-limits_of net flow steps = all_of (λ a. limit_of (arc_at net.arcs a) (flow a) (beside zero_ratio steps a)) (moving steps)
 
 -- the bound towards which a flow goes
 abbrev pub bound_ahead : Ratio → Mark

@@ -11,7 +11,7 @@ ghost use Rattle.np_model.specs.Basis.Phases.{phase_net, all_arcs};
 ghost use Rattle.np_model.specs.Basis.Pieces.{nodes_in, basics_of, beside, marks_of, flows_of};
 ghost use Rattle.np_model.specs.Basis.Sound.{bound_at, values_in};
 ghost use Rattle.ratio_test.specs.Asked.{AreWithin, IsOutside};
-ghost use Rattle.np_basis.specs.PivotLaws.{lists_of};
+ghost use Rattle.np_model.specs.Basis.Needed.{lists_of};
 ghost use Rattle.ratio_test.specs.Steps.Ends.{HasEnd};
 
 use np_frac::Frac;

@@ -3,8 +3,9 @@
 ghost use Rattle.std.specs.Prelude.{◌≡◌, MatchResult};
 ghost use Rattle.np_model.specs.Basis.Phases.{phase_net};
 ghost use Rattle.ratio_test.specs.Asked.{AreWithin, IsOutside, IsAlong};
-ghost use Rattle.np_basis.specs.PivotLaws.{lists_of};
-ghost use Rattle.ratio_test.specs.Answers.{IsAnswer, IsOverflow};
+ghost use Rattle.np_model.specs.Basis.Needed.{lists_of};
+ghost use Rattle.ratio_test.specs.Answers.{IsAnswer};
+ghost use Rattle.np_model.specs.Basis.Attempts.{LimitsOverflow};
 
 use crate::answer::RatioAnswer;
 use crate::flow::flow_of;
@@ -42,7 +43,7 @@ pub fn ratio<T: Piece>(
     requires along { IsAlong (lists_of (λ p. T.lists p.now) (T.lists first.now) second) direction.now }
     ensures { MatchResult result
         (IsAnswer (phase_net phase full.now) (lists_of (λ p. T.lists p.now) (T.lists first.now) second.entry) direction.now)
-        (IsOverflow (phase_net phase full.now) (lists_of (λ p. T.lists p.now) (T.lists first.now) second.entry) direction.now) }
+        (LimitsOverflow (phase_net phase full.now) (lists_of (λ p. T.lists p.now) (T.lists first.now) second.entry) direction.now) }
 {
     let enter = direction.enter;
     let steps = direction.steps.as_slice();

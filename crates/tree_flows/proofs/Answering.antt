@@ -20,7 +20,8 @@ use Rattle.tree_flows.specs.declared.refusal.DirRefusal.{DirRefusal}
 use Rattle.tree_flows.specs.declared.refusal.DirRefusal.TheVariants as refusal
 use Rattle.tree_flows.specs.declared.sums.Entering.{Entering}
 use Rattle.tree_flows.specs.Answers.{CanEnter, IsAnswer, GivesPast, IsCause, ArePulled, AreStepsOn, IsRefusedOn}
-use Rattle.np_basis.specs.PivotLaws.{unit_of, IsDirectionOf}
+use Rattle.np_basis.specs.PivotLaws.{unit_of}
+use Rattle.np_model.specs.Basis.Needed.{IsDirectionOf}
 use Rattle.tree_flows.proofs.Listing.{arcs_of, stays_in, ordered, beside_is}
 use Rattle.tree_flows.proofs.Pulling.{pulled, balance_same, direction_exists}
 

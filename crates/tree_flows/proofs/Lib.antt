@@ -9,7 +9,7 @@ mod Ending
 mod Following
 mod Mixing
 mod Cycling
-mod Apart
+pub mod Apart
 mod Walked
 mod Needs
 mod Moving

@@ -25,7 +25,7 @@ use Rattle.np_basis.proofs.Extras.{links_are_no_loops}
 use Rattle.np_basis.proofs.Trees as trees
 use Rattle.tree_flows.specs.declared.sums.Entering.{Entering}
 use Rattle.tree_flows.specs.Answers.{CanEnter, IsPulled, ArePulled}
-use Rattle.np_basis.specs.PivotLaws.{IsDirectionOf}
+use Rattle.np_model.specs.Basis.Needed.{IsDirectionOf}
 use Rattle.tree_flows.proofs.Coefficients.{K}
 
 total_map : {A B : Type 0} (f : B → Ratio) (g : A → B) (xs : List A) → field.total ratios f (map g xs) ≡ field.total ratios (λ x. f (g x)) xs

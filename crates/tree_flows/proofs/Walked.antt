@@ -83,6 +83,6 @@ module _ (s : Scene) where
     one_each = h.0.long;
     are = h.0.are;
     rows_fit = λ y i. subst (λ x. FitsRows (ends_at s.net.arcs) s.d (basics_in s.piece) x s.e.arc) (extra_is_unique s.net s.piece (scenes.x s) y s.pulled.in_net (scenes.is_extra s) i) h.1;
-    none_given = λ row past g. not_both s h.1 row past (subst (λ x. Gives (ends_at s.net.arcs) s.d (basics_in s.piece) x s.e.arc row past) (extra_is_unique s.net s.piece g.0 (scenes.x s) s.pulled.in_net g.1 (scenes.is_extra s)) g.2);
+    none_given = λ row past g. not_both (ends_at s.net.arcs) (basics_in s.piece) (scenes.x s) (scenes.is_extra s) s.e.arc s.d s.d (λ a i. refl) h.1 row past (subst (λ x. Gives (ends_at s.net.arcs) s.d (basics_in s.piece) x s.e.arc row past) (extra_is_unique s.net s.piece g.0 (scenes.x s) s.pulled.in_net g.1 (scenes.is_extra s)) g.2);
   }
   answered (Err o) h = (h.0, (scenes.x s, scenes.is_extra s, h.1))

@@ -18,7 +18,8 @@ use Rattle.np_model.specs.Basis.Pieces.{PieceLists, nodes_in, basics_in, beside,
 use Rattle.np_model.specs.Basis.Sound.{IsInNet, HoldEnds}
 use Rattle.np_model.specs.Basis.Moves.{balance_on}
 use Rattle.np_model.specs.Rows.Directions.{DirectionFits, DirectionGives}
-use Rattle.np_basis.specs.PivotLaws.{unit_of, IsDirectionOf}
+use Rattle.np_basis.specs.PivotLaws.{unit_of}
+use Rattle.np_model.specs.Basis.Needed.{IsDirectionOf}
 use Rattle.tree_search.specs.Places.{number_by_place}
 use Rattle.tree_flows.specs.declared.refusal.DirRefusal.{DirRefusal}
 use Rattle.tree_flows.specs.declared.refusal.DirRefusal.TheVariants as refusal

@@ -7,7 +7,8 @@ ghost use Rattle.np_model.specs.declared.phase.Phase.{Phase as ThePhase};
 ghost use Rattle.np_model.specs.declared.rows.Row.{Row as TheRow};
 ghost use Rattle.np_model.specs.Basis.Phases.{phase_net};
 ghost use Rattle.tree_flows.specs.Answers.{CanEnter, IsAnswer, GivesPast, IsCause};
-ghost use Rattle.np_basis.specs.PivotLaws.{lists_of, unit_of};
+ghost use Rattle.np_basis.specs.PivotLaws.{unit_of};
+ghost use Rattle.np_model.specs.Basis.Needed.{lists_of};
 
 use crate::moves::in_order;
 use crate::pieces::steps_on;

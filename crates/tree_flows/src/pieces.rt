@@ -12,7 +12,7 @@ ghost use Rattle.np_model.specs.Network.Flows.{Network, at};
 ghost use Rattle.np_basis.specs.Laws.{HasSoundArcs};
 ghost use Rattle.tree_flows.specs.Walks.{IsLaidOut};
 ghost use Rattle.tree_flows.specs.Answers.{piece_of, IsPulled, ArePulled, AreAmounts, IsOverflow, AreStepsOn, IsRefusedOn};
-ghost use Rattle.np_basis.specs.PivotLaws.{lists_of};
+ghost use Rattle.np_model.specs.Basis.Needed.{lists_of};
 
 use crate::layout::{Layout, layout_of, zeros};
 use crate::moves::with_moving;

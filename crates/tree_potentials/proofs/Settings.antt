@@ -127,7 +127,7 @@ module _ (net : Network) (piece : PieceLists) (h : IsInNet net piece) where
       (m.0, m.1, l.0, l.1, is_ok_of (over_of m.0 l.0) r.0 l.2)
 
   -- an operation that is reached overflows, or none does
-  clash : (x : Extra) (p q : ℕ → Ratio) → IsExtra (ends_at net.arcs) (basics_in piece) x → ((v : ℕ) → IsIn v (nodes_in piece) → p v ≡ q v) → (row : Row) (past : Past)
+  pub clash : (x : Extra) (p q : ℕ → Ratio) → IsExtra (ends_at net.arcs) (basics_in piece) x → ((v : ℕ) → IsIn v (nodes_in piece) → p v ≡ q v) → (row : Row) (past : Past)
       → Gives (ends_at net.arcs) (cost_at net.arcs) (basics_in piece) x p row past → FitsRows (ends_at net.arcs) (cost_at net.arcs) (basics_in piece) x q → ⊥
   clash x p q is same row past (rows.product k way other e d) f =
       let r = root_round x k way e f.at_root in

@@ -24,8 +24,8 @@ use Rattle.np_model.specs.Basis.Pieces.{PieceLists, nodes_in, basics_in}
 use Rattle.np_model.specs.Basis.Sound.{IsInNet}
 use Rattle.np_model.specs.Rows.Extra.{Extra, OneEnd, Round, extra_nodes, IsOnRound, IsExtra, Hangs, Leads}
 use Rattle.np_model.specs.Rows.Potentials as rows
-use Rattle.np_model.specs.Rows.Potentials.{across, FitsRows}
-use Rattle.np_basis.specs.Laws.{HasSoundArcs, ArePriced}
+use Rattle.np_model.specs.Rows.Potentials.{across, FitsRows, ArePriced}
+use Rattle.np_basis.specs.Laws.{HasSoundArcs}
 use Rattle.np_basis.proofs.Trees.{lies, potentials_exist}
 use Rattle.np_basis.proofs.Extras.{no_loops, extra_is_unique}
 use Rattle.np_basis.proofs.Divisors.{potentials_divisor}

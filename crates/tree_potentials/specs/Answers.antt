@@ -13,8 +13,7 @@ use Rattle.np_model.specs.Network.Flows.{Network, at}
 use Rattle.np_model.specs.Basis.Graphs.{arc_at, ends_at, cost_at}
 use Rattle.np_model.specs.Basis.Pieces.{PieceLists, nodes_in, basics_in, beside}
 use Rattle.np_model.specs.Basis.States.{price}
-use Rattle.np_model.specs.Rows.Potentials.{PotentialsFit, PotentialsGive}
-use Rattle.np_basis.specs.Laws.{ArePriced}
+use Rattle.np_model.specs.Rows.Potentials.{PotentialsFit, PotentialsGive, ArePriced}
 use Rattle.tree_potentials.specs.declared.refusal.PotentialRefusal.{PotentialRefusal}
 use Rattle.tree_potentials.specs.declared.refusal.PotentialRefusal.TheVariants as refusal
 

@@ -2,6 +2,7 @@
 -- cycle are those of Ahuja, Magnanti and Orlin, Network Flows, chapter 15.
 use Rattle.std.specs.Prelude.{◌≡◌, ℕ, ◌==◌, if◌then◌else◌, List, [], ◌∷◌, Result, Ok, Err}
 use Rattle.std.specs.Result.{IsOk}
+use Rattle.gain_graphs.specs.Arcs.{IsIn}
 use Rattle.np_frac.specs.Ratio.{Ratio, zero_ratio, one_ratio, negated}
 use Rattle.np_frac.specs.Exact.{plus_of, minus_of, times_of, over_of, ◌▷◌}
 use Rattle.np_frac.specs.declared.frac.Past.{Past}
@@ -9,7 +10,13 @@ use Rattle.np_model.specs.declared.arc.Ends.{Ends}
 use Rattle.np_model.specs.declared.arc.Ends.TheVariants.{Link, Drain, Feed}
 use Rattle.np_model.specs.declared.rows.Row.{Row}
 use Rattle.np_model.specs.declared.rows.Row.TheVariants.{A3, A7}
+use Rattle.np_model.specs.Network.Arcs.{reduced_cost, tail_of, head_of}
 use Rattle.np_model.specs.Rows.Extra.{Extra, OneEnd, Round, root, IsExtra, Leads}
+
+-- with these costs by number and these potentials each of these arcs has the reduced cost 0
+abbrev pub ArePriced : (ℕ → Ends) → (ℕ → Ratio) → List ℕ → (ℕ → Ratio) → Type 0
+ArePriced ends cost arcs potential =
+    (a : ℕ) → IsIn a arcs → reduced_cost (ends a) (cost a) (potential (tail_of (ends a))) (potential (head_of (ends a))) ≡ zero_ratio
 
 -- the potential at the other end of a link with this cost, from the potential at its end u
 abbrev pub across : Ends → Ratio → ℕ → Ratio → Result Ratio Past

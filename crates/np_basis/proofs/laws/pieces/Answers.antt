@@ -1,5 +1,5 @@
 use Rattle.np_basis.proofs.Cutting.{piece_exists, piece_is_unique}
-use Rattle.np_basis.proofs.Reading.{pieces_are_sound}
+use Rattle.np_basis.proofs.Reading.{pieces_are_sound, pieces_agree}
 use Rattle.np_basis.proofs.laws.pieces.Goals as goal
 
 pub returns-clause-exist : goal.returns-clause-exist
@@ -10,3 +10,6 @@ returns-clause-unique c = piece_is_unique
 
 pub returns-clause-sound : goal.returns-clause-sound
 returns-clause-sound c = pieces_are_sound
+
+pub returns-clause-agree : goal.returns-clause-agree
+returns-clause-agree c = pieces_agree

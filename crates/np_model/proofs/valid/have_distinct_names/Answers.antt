@@ -1,7 +1,6 @@
-use Rattle.std.proofs.Common.{arith, refl}
+use Rattle.std.proofs.Common.{arith, refl, ◌<◌, length}
 use Rattle.np_model.specs.Scheme.Names.{flow_names}
 use Rattle.np_model.specs.declared.scheme.Flow.{Flow}
-use Rattle.std.proofs.Common.{◌<◌, length}
 use Rattle.std.proofs.lemmas.List.{length-map}
 use Rattle.np_model.proofs.Distinct.{name-here, new-none, new-more, not-new}
 use Rattle.np_model.proofs.valid.have_distinct_names.Goals as goal

@@ -5,7 +5,7 @@ use Rattle.np_frac.specs.Ratio.{Ratio}
 use Rattle.std.specs.Prelude.{ℕ, ◌+◌}
 use Rattle.np_model.specs.declared.arc.Ends.{Ends}
 use Rattle.tree_search.specs.Places.{numbers_of_arcs}
-use Rattle.piece_lists.specs.Flowing.{numbers_of_steps}
+use Rattle.np_model.specs.Rows.Moving.{numbers_of_steps}
 use Rattle.piece_lists.proofs.Walking.{Walked, moves, stays, overflows, finished}
 use Rattle.piece_lists.proofs.flowing.moved.Goals as goal
 

@@ -5,7 +5,7 @@ use Rattle.np_model.specs.Basis.Graphs.{arc_at}
 use Rattle.np_model.specs.Basis.Phases.{phase_net}
 use Rattle.np_model.specs.Basis.Pieces.{basics_of}
 use Rattle.np_model.specs.Basis.Sound.{bound_at}
-use Rattle.np_basis.specs.PivotLaws.{lists_of}
+use Rattle.np_model.specs.Basis.Needed.{lists_of}
 use Rattle.ratio_test.proofs.Held.{flow_outside, flow_basic}
 use Rattle.ratio_test.proofs.flow.flow_of.Goals as goal
 

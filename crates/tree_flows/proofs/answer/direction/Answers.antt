@@ -3,7 +3,7 @@ use Rattle.np_frac.specs.declared.frac.Frac.{Frac}
 use Rattle.std.specs.Option.{option_copied}
 use Rattle.np_model.specs.Basis.Phases.{phase_net}
 use Rattle.np_basis.proofs.Fulls.{full_net_is_sound}
-use Rattle.np_basis.specs.PivotLaws.{lists_of}
+use Rattle.np_model.specs.Basis.Needed.{lists_of}
 use Rattle.tree_flows.proofs.Answering.{answer, cause, never}
 use Rattle.quasi_tree.specs.Store.{Store}
 use Rattle.tree_flows.proofs.answer.direction.Goals as goal

@@ -1,7 +1,7 @@
 use Rattle.std.proofs.Common.{inl, inr, refl, sym, subst}
 use Rattle.std.specs.Option.{option_copied}
 use Rattle.gain_graphs.specs.Arcs.{IsIn}
-use Rattle.np_basis.specs.PivotLaws.{lists_of}
+use Rattle.np_model.specs.Basis.Needed.{lists_of}
 use Rattle.quasi_tree.specs.Store.{Store}
 use Rattle.tree_flows.proofs.pieces.steps_on.Goals as goal
 
