@@ -31,10 +31,11 @@ use Rattle.ratio_test.specs.Asked as asked
 use Rattle.tree_flows.specs.Answers as flows
 use Rattle.tree_flows.specs.declared.refusal.DirRefusal.{DirRefusal}
 use Rattle.tree_flows.specs.declared.refusal.DirRefusal.TheVariants as refusal
-use Rattle.pivot_step.specs.Answers.{goes_up, PriceFits, HasDirection, IsAimed, IsFollowed, IsPivoted, of_direction, of_move, IsPrepared}
+use Rattle.np_model.specs.Basis.Attempts.{of_direction, goes_up, PriceFits, HasDirection, IsAimed, IsFollowed, IsPivoted, of_move, IsPrepared}
 use Rattle.pivot_step.specs.Asked as steps
 use Rattle.pivot_step.specs.Asked.{IsMoved}
-use Rattle.np_basis.specs.PivotLaws.{IsDirectionOf, MayEnter, lists_of, unit_of}
+use Rattle.np_basis.specs.PivotLaws.{MayEnter, unit_of}
+use Rattle.np_model.specs.Basis.Needed.{IsDirectionOf, lists_of}
 use Rattle.pivot_step.specs.Overflows.{AreReady, IsMoveBy}
 
 -- ---- the pieces, in the words of each row

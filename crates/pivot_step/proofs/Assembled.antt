@@ -19,7 +19,8 @@ use Rattle.np_model.specs.Basis.Moves.{IsEligible, mark_after}
 use Rattle.np_model.specs.Basis.Pieces.{PieceLists, nodes_in, basics_in, marked_in, nodes_of, basics_of}
 use Rattle.np_model.specs.Basis.Sound.{bound_at, values_in, HoldEnds, IsInNet, IsSound, AreSound, AreOneOrTwo, IsAfter}
 use Rattle.np_model.specs.Basis.States.{StandsAt}
-use Rattle.np_basis.specs.PivotLaws.{HasRealArcs, AreInNet, MayEnter, IsMoveOf}
+use Rattle.np_basis.specs.PivotLaws.{HasRealArcs, AreInNet, MayEnter}
+use Rattle.np_model.specs.Basis.Needed.{IsMoveOf}
 use Rattle.np_basis.proofs.Ascending.{ascends}
 use Rattle.np_basis.proofs.Pivoting.{mark_leave, mark_enter, mark_other, not_towards, not_gaining}
 use Rattle.np_basis.proofs.Reading.{in_flat, in_flat_of, touches_flat, bound_stands}

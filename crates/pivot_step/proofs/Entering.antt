@@ -19,7 +19,7 @@ use Rattle.np_model.specs.Basis.Pieces.{PieceLists, nodes_in, basics_in, marked_
 use Rattle.np_model.specs.Basis.Sound.{bound_at, values_in, HoldEnds, AreSound}
 use Rattle.np_model.specs.Basis.States.{price}
 use Rattle.np_basis.specs.Laws.{HasSoundArcs}
-use Rattle.np_basis.specs.PivotLaws.{AreNeededFor}
+use Rattle.np_model.specs.Basis.Needed.{AreNeededFor, lists_of}
 use Rattle.np_basis.proofs.Directions as directions
 use Rattle.np_basis.proofs.Pivoting.{not_gaining}
 use Rattle.np_basis.proofs.Reading.{in_flat_of, map_map}
@@ -27,9 +27,8 @@ use Rattle.np_basis.proofs.Roots.{needed_hold, only_one}
 use Rattle.np_basis.proofs.Sound as sounds
 use Rattle.quasi_tree.specs.Store.{Store}
 use Rattle.piece_lists.specs.Joining.{all_nodes}
-use Rattle.arc_pricing.specs.Prices.{price_at, price_of}
+use Rattle.np_model.specs.Rows.Prices.{price_at, price_of}
 use Rattle.arc_pricing.proofs.Eligibility.{price_exact}
-use Rattle.np_basis.specs.PivotLaws.{lists_of}
 
 -- ---- what stands beside a number in two lists
 

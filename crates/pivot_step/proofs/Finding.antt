@@ -19,14 +19,16 @@ use Rattle.np_model.specs.Basis.Sound.{values_in, AreSound}
 use Rattle.np_model.specs.Basis.States.{IsPartOf}
 use Rattle.np_model.specs.Rows.Arcs.{flow_after}
 use Rattle.np_basis.specs.Laws.{HasSoundArcs}
-use Rattle.np_basis.specs.PivotLaws.{AreInNet, MayEnter, AreNeededFor}
+use Rattle.np_basis.specs.PivotLaws.{AreInNet, MayEnter}
+use Rattle.np_model.specs.Basis.Needed.{AreNeededFor}
 use Rattle.np_basis.proofs.Ascending.{ascends, ascends_once}
 use Rattle.np_basis.proofs.Pivoting.{unmoved}
 use Rattle.np_basis.proofs.Reading.{beside_in, beside_out, in_flat, in_flat_of}
 use Rattle.np_basis.proofs.Roots.{two_roots}
 use Rattle.np_basis.proofs.Sound as sounds
 use Rattle.tree_search.specs.Places.{numbers_of_nodes, numbers_of_arcs}
-use Rattle.piece_lists.specs.Flowing.{numbers_of_steps, IsMoved, AreFlowsAfter}
+use Rattle.piece_lists.specs.Flowing.{IsMoved, AreFlowsAfter}
+use Rattle.np_model.specs.Rows.Moving.{numbers_of_steps}
 use Rattle.piece_lists.specs.Joining.{all_marks, CanBeOne, AreInOne, AreMarksAfter}
 use Rattle.piece_lists.specs.Parts.{nodes_where, touch, piece_at, pieces_at, AreFound}
 use Rattle.piece_lists.proofs.Joined.{filter_in}

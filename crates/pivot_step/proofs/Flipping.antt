@@ -1,6 +1,6 @@
 -- A flip: the basic arcs stay, so the new pieces are the old ones, with their potentials.
-use Rattle.std.specs.Prelude.{◌≡◌, ◌↔◌, ◌<◌, ℕ, List, [], ◌∷◌, ◌++◌, map, length, slice_index}
-use Rattle.std.proofs.Common.{refl, sym, ap, ap₂, subst, inl, inr, arith}
+use Rattle.std.specs.Prelude.{◌≡◌, ◌↔◌, ℕ, List, [], ◌∷◌, ◌++◌, map, length, slice_index}
+use Rattle.std.proofs.Common.{sym, subst, inl, inr}
 use Rattle.gain_graphs.specs.Arcs as graph
 use Rattle.gain_graphs.specs.Arcs.{IsIn, Touches, AreJoined, Step, Along, Against, IsWalk}
 use Rattle.gain_graphs.specs.QuasiTrees.{LiesIn}
@@ -14,13 +14,14 @@ use Rattle.np_model.specs.Basis.Pieces.{PieceLists, nodes_in, basics_in, beside,
 use Rattle.np_model.specs.Basis.Sound.{IsSound, AreSound}
 use Rattle.np_model.specs.Basis.States.{price, IsPartOf}
 use Rattle.np_model.specs.Rows.Potentials.{PotentialsFit}
-use Rattle.np_basis.proofs.Ascending.{Ascends, ascends, ascends_once, same_rising}
+use Rattle.np_basis.proofs.Ascending.{ascends, ascends_once, same_rising}
 use Rattle.np_basis.proofs.Reading.{in_flat, in_flat_of}
 use Rattle.np_basis.proofs.Roots.{joined_more}
 use Rattle.np_basis.proofs.Sound as sounds
 use Rattle.np_basis.proofs.Trees as trees
 use Rattle.piece_lists.specs.Joining.{all_nodes}
 use Rattle.pivot_step.specs.After.{HasRightPotentials}
+use Rattle.pivot_step.proofs.Entries.{same_entries}
 use Rattle.pivot_step.proofs.Found.{first_in, first_least, some_long}
 
 -- ---- parts of the same basic arcs
@@ -32,28 +33,6 @@ same_part net basic nodes numbers others theirs p q v i j =
       same_rising nodes others p.nodes_ascend q.nodes_ascend (λ u. (same.1 u).0) (λ u. (same.1 u).1),
       same_rising numbers theirs p.arcs_ascend q.arcs_ascend (λ a. (same.2 a).0) (λ a. (same.2 a).1),
     )
-
--- lists of entries with the same numbers, of which the one has no entries but those of the other
-pub same_entries : (xs ys : List (ℕ × Ratio)) → map (λ (x : ℕ × Ratio). x.0) xs ≡ map (λ (x : ℕ × Ratio). x.0) ys → Ascends (map (λ (x : ℕ × Ratio). x.0) ys) → ((x : ℕ × Ratio) → IsIn x xs → IsIn x ys) → xs ≡ ys
-same_entries [] [] e a h = refl
-same_entries [] (y ∷ ys) e a h = absurd (let z : ⊥ = cc in z)
-same_entries (x ∷ xs) [] e a h = absurd (h x (inl refl))
-same_entries (x ∷ xs) (y ∷ ys) e a h = ap₂ (λ (t : ℕ × Ratio) ts. t ∷ ts) here (same_entries xs ys tails a.1 rest)
-  where
-    heads : x.0 ≡ y.0
-    heads = cc
-
-    tails : map (λ (x : ℕ × Ratio). x.0) xs ≡ map (λ (x : ℕ × Ratio). x.0) ys
-    tails = cc
-
-    here : x ≡ y
-    here = elim (h x (inl refl)) [ inl f ↦ f | inr i ↦ (let l : y.0 < x.0 = a.0 x.0 (in_map (λ (z : ℕ × Ratio). z.0) x ys i) in absurd (omega (arith, heads))) ]
-
-    rest : (z : ℕ × Ratio) → IsIn z xs → IsIn z ys
-    rest z i = elim (h z (inr i)) [
-      | inl f ↦ (let l : y.0 < z.0 = a.0 z.0 (subst (IsIn z.0) tails (in_map (λ (t : ℕ × Ratio). t.0) z xs i)) in let g : z.0 ≡ y.0 = ap (λ (t : ℕ × Ratio). t.0) f in absurd (omega arith))
-      | inr j ↦ j
-    ]
 
 module _ (net : Network) (ps : List PieceLists) (sound : AreSound net ps) (basic : List ℕ) (same_basic : (a : ℕ) → IsIn a basic ↔ IsIn a (basics_of ps)) where
   -- a basic arc that touches a piece is one of its own
@@ -132,4 +111,4 @@ module _ (net : Network) (ps : List PieceLists) (sound : AreSound net ps) (basic
           subst (λ (p : PieceLists). IsIn n p.nodes) e w.2
 
       nodes : q.nodes ≡ r.0.nodes
-      nodes = same_entries q.nodes r.0.nodes same.0 (ascends (nodes_in r.0) own.in_net.shape.nodes_ascend) own_entry
+      nodes = same_entries (λ (n : ℕ × Ratio). n.0) q.nodes r.0.nodes same.0 (ascends (nodes_in r.0) own.in_net.shape.nodes_ascend) own_entry

@@ -1,7 +1,13 @@
 mod Found
 mod Finding
 mod Assembled
+mod Entries
 mod Flipping
 mod Ready
 mod Entering
 mod Answering
+mod Naming
+mod Once
+mod Excluding
+pub mod Beside
+pub mod Fixtures

@@ -22,7 +22,8 @@ use Rattle.np_model.specs.Basis.Phases.{real_arc, artificial_arc, phase_arcs, ph
 use Rattle.np_model.specs.Basis.Pieces.{PieceLists, nodes_in, basics_in, marked_in, beside, nodes_of, basics_of}
 use Rattle.np_model.specs.Basis.Sound.{values_in, HoldEnds, IsInNet, AreOneOrTwo, AreInOrder, IsAfter}
 use Rattle.np_model.specs.Basis.States.{IsPartOf}
-use Rattle.np_basis.specs.PivotLaws.{HasRealArcs, AreNeededFor, MayEnter}
+use Rattle.np_basis.specs.PivotLaws.{HasRealArcs, MayEnter}
+use Rattle.np_model.specs.Basis.Needed.{AreNeededFor}
 use Rattle.np_basis.proofs.Ascending.{ascends, ascends_once}
 use Rattle.np_basis.proofs.Basics.{range_holds}
 use Rattle.np_basis.proofs.Directions as directions
@@ -31,14 +32,16 @@ use Rattle.np_basis.proofs.Reading.{in_flat}
 use Rattle.np_basis.proofs.Roots.{needed_hold}
 use Rattle.quasi_tree.specs.Store.{IsHeld}
 use Rattle.tree_search.specs.Places.{numbers_of_nodes, numbers_of_arcs, HasPlace, EndsHavePlaces}
-use Rattle.piece_lists.specs.Flowing.{numbers_of_steps, AreFlowsAfter, IsFirstPast}
+use Rattle.piece_lists.specs.Flowing.{AreFlowsAfter, IsFirstPast}
+use Rattle.np_model.specs.Rows.Moving.{numbers_of_steps}
 use Rattle.piece_lists.specs.Joining.{AreInOne, AreMarksAfter}
 use Rattle.piece_lists.specs.Parts.{nodes_where, touch, piece_at, pieces_at, AreFound}
 use Rattle.piece_lists.specs.declared.flowing.FlowRefusal.{FlowRefusal}
 use Rattle.piece_lists.specs.declared.flowing.FlowRefusal.TheVariants as flow
 use Rattle.piece_lists.proofs.Splitting.{where_to}
 use Rattle.pivot_step.specs.After.{AreListsAfter, IsPieceOver, ArePiecesOver}
-use Rattle.pivot_step.specs.Overflows.{AreReady, IsMoveBy, FlowsFit, MoveOverflows}
+use Rattle.pivot_step.specs.Overflows.{AreReady, IsMoveBy}
+use Rattle.np_model.specs.Basis.Attempts.{FlowsFit, MoveOverflows}
 use Rattle.pivot_step.specs.Steps.{OnPast, of_flows, AreChanged, IsSettled, AreSettled, OneGivesAt, AreFoundAfter}
 use Rattle.pivot_step.specs.declared.refusal.Refusal.{Refusal}
 use Rattle.pivot_step.specs.declared.refusal.Refusal.TheVariants as refusal

@@ -13,7 +13,7 @@ use Rattle.np_model.specs.Basis.Pieces.{PieceLists, nodes_in, basics_in, nodes_o
 use Rattle.np_model.specs.Basis.Sound.{values_in, AreInOrder}
 use Rattle.np_model.specs.Basis.States.{price, IsPartOf}
 use Rattle.np_model.specs.Rows.Potentials.{PotentialsFit}
-use Rattle.np_basis.specs.PivotLaws.{AreBasicAfter}
+use Rattle.np_model.specs.Basis.Needed.{AreBasicAfter}
 use Rattle.tree_search.specs.Places.{numbers_of_arcs}
 use Rattle.piece_lists.specs.Joining.{all_marks, AreMarksAfter}
 use Rattle.piece_lists.specs.Parts.{touch}

@@ -11,13 +11,13 @@ use Rattle.np_model.specs.Basis.Pieces.{PieceLists}
 use Rattle.np_model.specs.Basis.Sound.{values_in}
 use Rattle.quasi_tree.specs.Store.{Store}
 use Rattle.piece_lists.specs.Parts.{lists_in}
-use Rattle.arc_pricing.specs.Prices.{price_of}
+use Rattle.np_model.specs.Rows.Prices.{price_of}
 use Rattle.tree_flows.specs.declared.refusal.DirRefusal.{DirRefusal}
 use Rattle.tree_flows.specs.declared.refusal.DirRefusal.TheVariants as direction
 use Rattle.pivot_step.specs.declared.testing.Tested.{Tested}
 use Rattle.pivot_step.specs.declared.testing.Tested.TheVariants as tested
-use Rattle.pivot_step.specs.Answers.{PriceFits}
-use Rattle.pivot_step.specs.Overflows.{IsMade, MoveOverflows}
+use Rattle.np_model.specs.Basis.Attempts.{PriceFits, MoveOverflows}
+use Rattle.pivot_step.specs.Overflows.{IsMade}
 
 -- whether the arc may enter, with its mark and its flow; or the overflow of its price
 abbrev pub IsTested : Network → ℕ → List PieceLists → ℕ → Tested → Type 0

@@ -2,5 +2,6 @@
 pub mod After
 pub mod Overflows
 pub mod Steps
-pub mod Answers
 pub mod Asked
+pub mod Named
+pub mod Laws

@@ -6,12 +6,11 @@ ghost use Rattle.np_model.specs.Basis.Graphs.{ends_at};
 ghost use Rattle.np_model.specs.Basis.Moves.{IsEligible};
 ghost use Rattle.np_model.specs.Basis.Phases.{phase_net, real_arcs, all_arcs};
 ghost use Rattle.np_model.specs.Basis.Sound.{values_in, AreSound};
-ghost use Rattle.np_basis.specs.PivotLaws.{AreNeededFor};
+ghost use Rattle.np_model.specs.Basis.Needed.{AreNeededFor, lists_of};
 ghost use Rattle.piece_lists.specs.Parts.{lists_in};
-ghost use Rattle.pivot_step.specs.Answers.{goes_up, PriceFits, IsPrepared};
+ghost use Rattle.np_model.specs.Basis.Attempts.{goes_up, PriceFits, IsPrepared};
 ghost use Rattle.pivot_step.specs.Asked.{of_direction};
 ghost use Rattle.pivot_step.specs.Overflows.{AreReady};
-ghost use Rattle.np_basis.specs.PivotLaws.{lists_of};
 
 use crate::change::Change;
 use crate::following::follow;

@@ -8,12 +8,14 @@ ghost use Rattle.np_model.specs.declared.log.Mark.{Mark as TheMark};
 ghost use Rattle.np_model.specs.Basis.Phases.{phase_net, real_arcs};
 ghost use Rattle.np_model.specs.Basis.Pieces.{basics_in, marked_in};
 ghost use Rattle.np_model.specs.Basis.Sound.{values_in};
-ghost use Rattle.piece_lists.specs.Flowing.{numbers_of_steps, IsFirstPast};
+ghost use Rattle.piece_lists.specs.Flowing.{IsFirstPast};
+ghost use Rattle.np_model.specs.Rows.Moving.{numbers_of_steps};
 ghost use Rattle.piece_lists.specs.Joining.{CanBeOne, AreInOne};
 ghost use Rattle.piece_lists.specs.Parts.{lists_in};
-ghost use Rattle.pivot_step.specs.Overflows.{AreReady, IsMoveBy, IsMade, MoveOverflows};
+ghost use Rattle.pivot_step.specs.Overflows.{AreReady, IsMoveBy, IsMade};
+ghost use Rattle.np_model.specs.Basis.Attempts.{MoveOverflows};
 ghost use Rattle.pivot_step.specs.Steps.{OnPast, AreChanged};
-ghost use Rattle.np_basis.specs.PivotLaws.{lists_of};
+ghost use Rattle.np_model.specs.Basis.Needed.{lists_of};
 
 use crate::refusal::{Refusal, of_flows};
 use crate::settling::{held, settled};

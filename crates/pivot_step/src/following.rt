@@ -7,10 +7,10 @@ ghost use Rattle.np_model.specs.Basis.Sound.{values_in};
 ghost use Rattle.piece_lists.specs.Parts.{lists_in};
 ghost use Rattle.ratio_test.specs.Asked.{far_bound};
 ghost use Rattle.ratio_test.specs.Answers.{IsAnswer};
-ghost use Rattle.pivot_step.specs.Answers.{IsAimed, IsPrepared};
+ghost use Rattle.np_model.specs.Basis.Attempts.{IsAimed, IsPrepared};
 ghost use Rattle.pivot_step.specs.Asked.{IsMoved};
 ghost use Rattle.pivot_step.specs.Overflows.{AreReady, IsMoveBy};
-ghost use Rattle.np_basis.specs.PivotLaws.{lists_of};
+ghost use Rattle.np_model.specs.Basis.Needed.{lists_of};
 
 use crate::change::Change;
 use crate::exchange::pieces_after;

@@ -5,9 +5,16 @@ mod attempt;
 mod change;
 mod exchange;
 mod following;
+pub mod laws;
+mod pivoter;
 mod refusal;
 mod settling;
 mod testing;
 
 pub use attempt::prepare;
 pub use change::{Change, apply};
+pub use pivoter::TreePivoter;
+pub use testing::flow_at;
+
+#[cfg(test)]
+mod tests;

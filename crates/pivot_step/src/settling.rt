@@ -27,7 +27,7 @@ pub(crate) fn held(pieces: Hands<Lists>) -> Hands<Quasi>
 }
 
 // A piece with its potentials; an overflow is told at the arc that enters.
-fn settled_piece(
+pub(crate) fn settled_piece(
     alloc: Global,
     full: &FullNet,
     phase: Phase,

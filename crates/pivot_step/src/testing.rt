@@ -8,10 +8,9 @@ ghost use Rattle.np_model.specs.Basis.Graphs.{arc_at, ends_at};
 ghost use Rattle.np_model.specs.Basis.Phases.{phase_net, real_arcs, all_arcs};
 ghost use Rattle.np_model.specs.Basis.Pieces.{beside, nodes_of};
 ghost use Rattle.np_model.specs.Basis.Sound.{bound_at, AreSound};
-ghost use Rattle.np_basis.specs.PivotLaws.{AreNeededFor};
+ghost use Rattle.np_model.specs.Basis.Needed.{AreNeededFor, lists_of};
 ghost use Rattle.piece_lists.specs.Joining.{all_nodes};
 ghost use Rattle.pivot_step.specs.Asked.{IsTested};
-ghost use Rattle.np_basis.specs.PivotLaws.{lists_of};
 
 use arc_pricing::{eligible, price};
 use np_frac::Frac;
@@ -40,8 +39,8 @@ fn potential_in(first: &Quasi, second: Option<&Quasi>, node: u32) -> Frac
     }
 }
 
-// The flow of an arc outside the basis with this mark.
-fn flow_at(full: &FullNet, phase: Phase, arc: u32, mark: Mark) -> Frac
+/// The flow of an arc outside the basis with this mark: that of its bound.
+pub fn flow_at(full: &FullNet, phase: Phase, arc: u32, mark: Mark) -> Frac
     requires { arc < all_arcs full.now }
     ensures { result ≡ bound_at (arc_at (phase_net phase full.now).arcs arc) mark }
 {

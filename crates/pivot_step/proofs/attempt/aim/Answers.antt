@@ -11,11 +11,11 @@ use Rattle.quasi_tree.specs.Store.{Store}
 use Rattle.piece_lists.specs.Parts.{lists_in}
 use Rattle.tree_flows.specs.Answers as flows
 use Rattle.tree_flows.specs.declared.refusal.DirRefusal.{DirRefusal}
-use Rattle.pivot_step.specs.Answers.{goes_up, IsAimed, IsPrepared}
+use Rattle.np_model.specs.Basis.Attempts.{goes_up, IsAimed, IsPrepared}
 use Rattle.pivot_step.specs.Overflows.{AreReady}
 use Rattle.pivot_step.proofs.Answering as answering
 use Rattle.pivot_step.proofs.Ready as ready
-use Rattle.np_basis.specs.PivotLaws.{lists_of}
+use Rattle.np_model.specs.Basis.Needed.{lists_of}
 use Rattle.pivot_step.proofs.attempt.aim.Goals as goal
 
 pub direction-requires : goal.direction-requires

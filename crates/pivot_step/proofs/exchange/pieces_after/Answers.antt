@@ -5,9 +5,10 @@ use Rattle.np_model.specs.declared.piece.Hands.{Hands}
 use Rattle.np_model.specs.Basis.Phases.{phase_net, real_arcs}
 use Rattle.quasi_tree.specs.Store.{Store}
 use Rattle.piece_lists.specs.Parts.{lists_in}
-use Rattle.pivot_step.specs.Overflows.{IsMade, MoveOverflows}
+use Rattle.pivot_step.specs.Overflows.{IsMade}
+use Rattle.np_model.specs.Basis.Attempts.{MoveOverflows}
 use Rattle.pivot_step.specs.Steps.{OnPast, OneGivesAt, AreSettled}
-use Rattle.np_basis.specs.PivotLaws.{lists_of}
+use Rattle.np_model.specs.Basis.Needed.{lists_of}
 use Rattle.pivot_step.proofs.Finding.{can_be_one}
 use Rattle.pivot_step.proofs.Ready as ready
 use Rattle.pivot_step.proofs.exchange.pieces_after.Goals as goal

@@ -1,7 +1,7 @@
 use Rattle.std.proofs.Common.{refl}
 use Rattle.std.specs.Option.{option_copied}
 use Rattle.np_model.specs.Basis.Phases.{phase_net, real_arcs}
-use Rattle.np_basis.specs.PivotLaws.{lists_of}
+use Rattle.np_model.specs.Basis.Needed.{lists_of}
 use Rattle.pivot_step.proofs.Answering as answering
 use Rattle.quasi_tree.specs.Store.{Store}
 use Rattle.pivot_step.proofs.following.answered.Goals as goal

@@ -3,10 +3,9 @@ use Rattle.std.specs.Option.{option_copied}
 use Rattle.np_model.specs.declared.log.Mark.TheVariants.{Lower}
 use Rattle.np_model.specs.Basis.Phases.{phase_net, real_arcs}
 use Rattle.np_model.specs.Basis.Pieces.{PieceLists}
-use Rattle.ratio_test.specs.Answers.{IsOverflow}
+use Rattle.np_model.specs.Basis.Attempts.{LimitsOverflow, of_ratio}
 use Rattle.ratio_test.specs.Asked.{IsOutside, IsAlong}
-use Rattle.pivot_step.specs.Answers.{of_ratio}
-use Rattle.np_basis.specs.PivotLaws.{lists_of}
+use Rattle.np_model.specs.Basis.Needed.{lists_of}
 use Rattle.pivot_step.proofs.Answering as answering
 use Rattle.pivot_step.proofs.Ready as ready
 use Rattle.quasi_tree.specs.Store.{Store}
@@ -24,4 +23,4 @@ ratio-requires-clause-along c κs =
 
 pub returns-in-Err : goal.returns-in-Err
 returns-in-Err c =
-    of_ratio c.args.direction c.requires.aimed (subst (λ (x : List PieceLists). IsOverflow (phase_net c.args.phase c.args.full.now) x c.args.direction c.in-Err.overflow) (answering.given_is c.args.first.now.lists c.args.second) c.in-Err.ensures)
+    of_ratio c.args.direction c.requires.aimed (subst (λ (x : List PieceLists). LimitsOverflow (phase_net c.args.phase c.args.full.now) x c.args.direction c.in-Err.overflow) (answering.given_is c.args.first.now.lists c.args.second) c.in-Err.ensures)

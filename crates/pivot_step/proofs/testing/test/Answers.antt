@@ -2,7 +2,7 @@ use Rattle.std.proofs.Common.{◌∙◌, ◌<◌, ℕ, sym, subst}
 use Rattle.std.specs.Option.{option_copied}
 use Rattle.np_model.specs.Basis.Phases.{phase_net, real_arcs}
 use Rattle.np_basis.proofs.Fulls.{full_net_is_sound}
-use Rattle.np_basis.specs.PivotLaws.{lists_of}
+use Rattle.np_model.specs.Basis.Needed.{lists_of}
 use Rattle.pivot_step.proofs.Entering as entering
 use Rattle.pivot_step.proofs.Ready as ready
 use Rattle.quasi_tree.specs.Store.{Store}
