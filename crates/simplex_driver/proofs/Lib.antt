@@ -1,0 +1,13 @@
+pub mod Tables
+pub mod Housing
+pub mod Stepped
+pub mod TableLaws
+pub mod Attempts
+pub mod Trying
+pub mod Pricing
+pub mod Turned
+pub mod SecondStage
+pub mod Amounts
+pub mod Ending
+pub mod Driving
+pub mod Opened

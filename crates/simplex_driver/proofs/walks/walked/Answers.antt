@@ -1,0 +1,10 @@
+use Rattle.std.proofs.Common.{rules, ◌≡◌, ◌<◌, ℕ, subst}
+use Rattle.np_model.specs.Basis.Phases.{network_of}
+use Rattle.simplex_driver.proofs.Driving as driving
+use Rattle.simplex_driver.proofs.walks.walked.Goals as goal
+
+pub walk-requires-clause-start : goal.walk-requires-clause-start
+walk-requires-clause-start g c κs sync =
+    driving.opened c.in-Ok.start.full c.in_ok-forest-in-Ok.forest c.started.ensures
+    (driving.supplies_fit (network_of c.args.net.now) (network_of c.in-Ok.start.full.net) c.as_slice.result.now c.in-Ok.ensures.same (search rules) c.read_values.ensures)
+    (driving.good_start c.in-Ok.start.full (network_of c.args.net.now) c.in-Ok.ensures.same c.in-Ok.ensures.start.artificial_are c.in-Ok.ensures.start.residuals_fit) c.in_ok-forest-in-Ok.ensures.state c.in_ok-forest-in-Ok.ensures.kept

@@ -1,0 +1,8 @@
+-- The driver of pivots.
+pub mod Store
+pub mod Picks
+pub mod Found
+pub mod Turns
+pub mod Runs
+pub mod Budgets
+pub mod Opening

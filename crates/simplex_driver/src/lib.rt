@@ -1,0 +1,20 @@
+//! The driver of the generalised network simplex method: from the start of stage one by pivots to one of five outcomes.
+#![tactic(auto)]
+
+mod attempt;
+mod driver;
+mod forest;
+mod opening;
+mod picking;
+mod ray;
+mod solving;
+mod stepping;
+mod telling;
+mod turning;
+
+pub use solving::{NetSimplex, solve};
+
+#[cfg(test)]
+mod tests;
+#[cfg(test)]
+mod walks;
