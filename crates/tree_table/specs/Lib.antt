@@ -1,0 +1,9 @@
+pub mod Weights
+pub mod Slots
+pub mod Passes
+pub mod Replay
+pub mod Whole
+pub mod Kinds
+pub mod Calls
+pub mod Laws
+pub mod Steps
