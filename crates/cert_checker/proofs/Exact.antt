@@ -1,5 +1,5 @@
 -- What the arithmetic of the walk finds is exact.
-use Rattle.std.specs.Prelude.{◌≡◌, ℕ, ◌==◌, Bool, true, false, if◌then◌else◌, Result, Ok, Err, List, [], ◌∷◌, length, map}
+use Rattle.std.specs.Prelude.{◌≡◌, ℕ, ◌==◌, Bool, true, false, if◌then◌else◌, Result, Ok, List, [], ◌∷◌, length, map}
 use Rattle.std.specs.List.{AllByRecursion, fold, zip, enumerate_from}
 use Rattle.std.proofs.Common.{refl, sym, ap, ◌∙◌}
 use Rattle.np_frac.specs.Ratio.{Ratio, zero_ratio, one_ratio, negated, ◌+ᵣ◌, ◌-ᵣ◌, ◌*ᵣ◌, total, is_below}

@@ -2,7 +2,6 @@
 use Rattle.std.specs.Prelude.{◌≡◌, ℕ, ◌+◌, ◌<◌, ◌≤◌, Option, Some, None, Result, Ok, Err, List, [], ◌∷◌, ◌++◌, length}
 use Rattle.std.proofs.Common.{refl, sym, ap, subst, ◌∙◌, arith, get_or, take, add-one}
 use Rattle.std.proofs.lemmas.List.{take_all, take-append-drop}
-use Rattle.std.proofs.Math.Seq.{take-suc}
 use Rattle.np_frac.proofs.Folds.{one_more}
 use Rattle.cert_checker.specs.Walk.{or_then, first_refusal, accepted_unless, goes_on_unless, UnlessMemory}
 use Rattle.cert_checker.specs.declared.answer.CheckRefusal.{CheckRefusal}

@@ -9,3 +9,4 @@ pub mod Segments
 pub mod Theorem
 pub mod Verdicts
 pub mod Whole
+pub mod Summed

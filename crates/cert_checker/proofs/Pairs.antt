@@ -1,14 +1,12 @@
 -- The staged arcs that the checker keeps, beside the amounts, place by place; and folds whose steps may overflow.
-use Rattle.std.specs.Prelude.{◌≡◌, ℕ, ◌+◌, ◌<◌, ◌≤◌, Option, None, Result, Ok, Err, List, [], ◌∷◌, length, map}
-use Rattle.std.specs.List.{All, fold, zip}
-use Rattle.std.proofs.Common.{refl, sym, ap, ap₂, subst, ◌∙◌, arith, get_or, take, drop}
-use Rattle.std.proofs.lemmas.List.{length-map, get_or-map, take_all, take-append-drop}
-use Rattle.std.proofs.lemmas.List.Sums.{fold-append}
+use Rattle.std.specs.Prelude.{◌≡◌, ℕ, ◌+◌, ◌<◌, ◌≤◌, Option, None, Result, Ok, Err, List, length, map}
+use Rattle.std.specs.List.{All, zip}
+use Rattle.std.proofs.Common.{sym, ap, ap₂, subst, ◌∙◌, arith, get_or, take}
+use Rattle.std.proofs.lemmas.List.{length-map, get_or-map}
 use Rattle.std.proofs.lemmas.Slice.Zip.{length-zip, get_or-zip}
 use Rattle.np_frac.specs.Ratio.{Ratio}
 use Rattle.np_frac.specs.declared.frac.Past.{Past}
 use Rattle.np_model.specs.Scheme.Segments.{Stage}
-use Rattle.np_frac.specs.Exact.{◌▷◌}
 use Rattle.np_frac.proofs.Folds.{run, runs_on}
 use Rattle.cert_checker.specs.Walk.{first_refusal, goes_on_unless}
 use Rattle.cert_checker.specs.Steps.Arcs.{as_stage}

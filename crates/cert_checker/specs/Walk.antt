@@ -268,3 +268,9 @@ abbrev pub UnlessMemory : {A : Type 0} → Result A CheckRefusal → Result A Ch
 UnlessMemory (Ok x) meant = Ok x ≡ meant
 UnlessMemory (Err refusal.Memory) meant = Unit {0}
 UnlessMemory (Err r) meant = Err r ≡ meant
+
+-- the sum at which a walk accepts, or the refusal that it gives whatever sum is claimed
+abbrev pub Sums : Result Ratio CheckRefusal → (Ratio → Option CheckRefusal) → Type 0
+Sums (Ok sum) refused = refused sum ≡ None
+Sums (Err refusal.Memory) refused = Unit {0}
+Sums (Err r) refused = (amount : Ratio) → refused amount ≡ Some r

@@ -4,7 +4,7 @@ ghost use Rattle.std.specs.Prelude.{◌≡◌, IsOk, length, map};
 ghost use Rattle.std.specs.List.{All, zip};
 ghost use Rattle.np_model.specs.Network.Arcs.{lesser};
 ghost use Rattle.np_model.specs.Scheme.Segments.{segments_beyond};
-ghost use Rattle.cert_checker.specs.Walk.{end_of, add_cost, add_segments, cost_of, cost_clause, goes_on_unless};
+ghost use Rattle.cert_checker.specs.Walk.{end_of, add_cost, add_segments, cost_of, cost_clause, goes_on_unless, Sums};
 ghost use Rattle.cert_checker.specs.Steps.Parts.{EndsFit, as_segment, add_segment};
 ghost use Rattle.cert_checker.specs.Steps.Arcs.{as_stage};
 
@@ -87,6 +87,21 @@ pub fn check_cost(arcs: &[StagedArc], amounts: &[Frac], cost: Frac) -> Result<()
                 period: 0,
             })
         }
+        Err(past) => Err(CheckRefusal::Past {
+            row: CheckRow::C4,
+            past,
+        }),
+    }
+}
+
+/// The cost of the flows, or the first operation of it that overflows.
+pub fn sum_cost(arcs: &[StagedArc], amounts: &[Frac]) -> Result<Frac, CheckRefusal>
+    requires long { length amounts.now ≡ length arcs.now }
+    requires ends { All EndsFit (map as_stage arcs.now) }
+    ensures { Sums result (cost_clause (zip (map as_stage arcs.now) amounts.now)) }
+{
+    match cost_of(arcs, amounts) {
+        Ok(sum) => Ok(sum),
         Err(past) => Err(CheckRefusal::Past {
             row: CheckRow::C4,
             past,

@@ -5,7 +5,7 @@ ghost use Rattle.std.specs.List.{All, enumerate_from, fold};
 ghost use Rattle.np_frac.specs.Ratio.{zero_ratio};
 ghost use Rattle.np_frac.specs.Exact.{◌▷◌};
 ghost use Rattle.np_model.specs.Network.Arcs.{bound_of, AreNodes};
-ghost use Rattle.cert_checker.specs.Walk.{upper_clause, end_clause, add_supply, add_worth, add_least, gap_of, gap_clause, first_refusal, goes_on_unless};
+ghost use Rattle.cert_checker.specs.Walk.{upper_clause, end_clause, add_supply, add_worth, add_least, gap_of, gap_clause, first_refusal, goes_on_unless, Sums};
 ghost use Rattle.cert_checker.specs.Steps.Arcs.{as_stage};
 
 use crate::answer::{CheckRefusal, Clause};
@@ -146,6 +146,30 @@ pub fn check_gap(
         Ok(sum) => {
             if Frac::whole(0).is_below(sum) && sum.is_same(amount) {
                 return Ok(());
+            }
+            Err(CheckRefusal::Reject {
+                clause: Clause::Gap,
+                name: None,
+                period: 0,
+            })
+        }
+        Err(past) => Err(CheckRefusal::Past {
+            row: CheckRow::C5,
+            past,
+        }),
+    }
+}
+
+/// The gap of the prices, where it is above 0, or the first operation of it that overflows.
+pub fn sum_gap(prices: &[Frac], supply: &[Frac], arcs: &[StagedArc]) -> Result<Frac, CheckRefusal>
+    requires each { length prices.now ≡ length supply.now }
+    requires joined { All (λ arc. AreNodes (length prices.now) (as_stage arc).ends) arcs.now }
+    ensures { Sums result (gap_clause supply.now (map as_stage arcs.now) prices.now) }
+{
+    match gap_of(prices, supply, arcs) {
+        Ok(sum) => {
+            if Frac::whole(0).is_below(sum) {
+                return Ok(sum);
             }
             Err(CheckRefusal::Reject {
                 clause: Clause::Gap,

@@ -12,9 +12,11 @@ mod ray;
 mod reduced;
 mod segment;
 mod staged;
+mod sums;
 #[cfg(test)]
 mod tests;
 mod walk;
 
 pub use answer::{CheckRefusal, Checked, Clause};
+pub use sums::{summed_cost, summed_gap};
 pub use walk::check;

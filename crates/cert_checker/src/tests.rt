@@ -1,7 +1,7 @@
 ghost use Rattle.std.specs.Prelude.{IfOk};
 ghost use Rattle.np_model.specs.Scheme.Fits.{PlanFits};
 
-use crate::{CheckRefusal, Checked, Clause, check};
+use crate::{CheckRefusal, Checked, Clause, check, summed_cost, summed_gap};
 use np_frac::{Frac, read_amount};
 use np_model::{
     Band, Bands, CheckRow, Entries, Flow, FlowKind, Flows, Fracs, Log, Name, Names, Plan, Scheme,
@@ -75,6 +75,17 @@ const OVERFLOWS: &str = "1 ; 3 ; S";
 
 const OVERFLOWS_ROWS: &str =
     "1/9999999999999999999 1/9999999999999999998 1/9999999999999999997 > infeasible 1 ;  ; 1 1 1 > past C5";
+
+// A scheme, a plan and what its sums come to, whatever it claims.
+const SUMS: &str =
+    "2 ; 1 ; 55 -45 ; hold 0 9/10 0 inf 1 ; drain 0 0 inf 0 > optimal 0 ; 50 5 0 ; 0 -10/9 > optimal 50
+2 ; 1 ; 55 -45 ; hold 0 9/10 0 inf 1 ; drain 0 0 inf 0 > optimal 0 ; 51 5 0 ; 0 -10/9 > reject balance 0 1
+1 ; 1 ; -4 ; feed 0 0 2 1 2 3 2 5 > optimal 0 ; 4 ; -4 > optimal 8
+1 ; 1 ; -4 ; feed 0 0 2 1 2 3 2 5 > optimal 0 ; 4 ; -2 > reject reduced 0 1
+1 ; 1 ; -5 > infeasible 0 ;  ; -1 > infeasible 5
+1 ; 1 ; -5 > infeasible 0 ;  ; 1 > reject gap
+1 ; 1 ; -5 ; feed 0 0 inf 3 > infeasible 0 ;  ; -1 > reject upper 0 1
+1 ; 3 ; 1/9999999999999999999 1/9999999999999999998 1/9999999999999999997 > infeasible 0 ;  ; 1 1 1 > past C5";
 
 fn number(text: &str) -> Result<Frac, Fail> {
     Ok(read_amount(text.as_bytes()).ok_or("not an amount")?)
@@ -306,4 +317,34 @@ fn knows_that_there_is_no_least_plan(rt: HostRuntime) -> Result<(), Fail> {
 #[test]
 fn tells_what_overflows(rt: HostRuntime) -> Result<(), Fail> {
     expect(&rt, rt.alloc(), OVERFLOWS, OVERFLOWS_ROWS)
+}
+
+// What the sums of a plan come to.
+fn summed(alloc: Global, scheme: &Scheme, plan: &Plan) -> Result<Checked, CheckRefusal>
+    requires { PlanFits scheme.now plan.now }
+{
+    match plan.verdict {
+        Verdict::Optimal => {
+            let cost = summed_cost(alloc, scheme, plan.flows.as_slice(), plan.prices.as_slice())?;
+            Ok(Checked::Optimal(cost))
+        }
+        Verdict::Infeasible => {
+            let gap = summed_gap(alloc, scheme, plan.prices.as_slice())?;
+            Ok(Checked::Infeasible(gap))
+        }
+        _ => Err(CheckRefusal::Memory),
+    }
+}
+
+#[test]
+fn sums_whatever_is_claimed(rt: HostRuntime) -> Result<(), Fail> {
+    let alloc = rt.alloc();
+    for row in SUMS.lines() {
+        let mut parts = row.split(" > ");
+        let scheme = scheme(alloc, parts.next().unwrap_or(""))?;
+        let plan = plan(alloc, &scheme, parts.next().unwrap_or(""))?;
+        let got = summed(alloc, &scheme, &plan);
+        assert!(rt; is_said(got, parts.next().unwrap_or(""))?, "{row}");
+    }
+    Ok(())
 }

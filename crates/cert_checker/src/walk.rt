@@ -108,8 +108,8 @@ fn check_unbounded(alloc: Global, scheme: &Scheme, plan: &Plan) -> Result<Checke
     Ok(Checked::Unbounded)
 }
 
-// Whether the flows balance and keep their bounds.
-fn check_feasible(
+/// Whether the flows balance and keep their bounds.
+pub fn check_feasible(
     alloc: Global,
     nodes: usize,
     supply: &[Frac],

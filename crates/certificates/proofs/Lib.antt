@@ -21,3 +21,8 @@ mod WrittenAmounts
 mod Written
 mod WrittenTexts
 mod WrittenRecords
+mod Sums
+mod Supplies
+mod Gathering
+mod Outcomes
+mod AtOnce

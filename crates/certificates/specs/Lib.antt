@@ -5,4 +5,5 @@ pub mod Faults
 pub mod Grammar
 pub mod Reading
 pub mod Writing
+pub mod Certificates
 pub mod Steps

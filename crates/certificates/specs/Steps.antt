@@ -3,3 +3,4 @@ pub mod Claims
 pub mod Amounts
 pub mod Texts
 pub mod Writing
+pub mod Certifying

@@ -1,4 +1,4 @@
-//! Laws of plan texts, each as the clause of a function that does nothing.
+//! Laws of plan texts and of what a run has ended in, each as the clause of a function that does nothing.
 
 ghost use Rattle.std.specs.Prelude.{◌≡◌, ◌≢◌, ℕ, Bool, List, [], None};
 ghost use Rattle.std.specs.List.{All};
@@ -7,10 +7,33 @@ ghost use Rattle.np_model.specs.declared.scheme.Scheme.{Scheme};
 ghost use Rattle.np_model.specs.Scheme.Fits.{PlanFits};
 ghost use Rattle.np_records.specs.Records.{records_of};
 ghost use Rattle.np_records.specs.Texts.{records_text};
+ghost use Rattle.certificates.specs.Certificates.{OptimalShows, InfeasibleForbids, UnboundedFalls, EndedPartsFit};
 ghost use Rattle.certificates.specs.Claims.{outline_of};
 ghost use Rattle.certificates.specs.Grammar.{IsPlanOf, plan_fault};
 ghost use Rattle.certificates.specs.Reading.{StandsForAPlan, IsReadAs};
 ghost use Rattle.certificates.specs.Writing.{plan_rows, told, HasFractions};
+
+use convex_arcs::laws::{filled_plans, other_verdicts, schemes};
+use np_runs::laws::{outcomes, parts};
+use period_expand::laws::expansions;
+
+/// An outcome that a run over the expanded network of a scheme has ended in shows its verdict of the scheme itself: the amounts that optimal
+/// flows are gathered to are a feasible plan, as the potentials show; potentials of an infeasible network certify that the scheme
+/// has no plan; and gathered flows and ray that every cost has a cheaper one. Its parts fit a plan.
+pub fn ended_outcomes()
+    ensures optimal { OptimalShows }
+    ensures infeasible { InfeasibleForbids }
+    ensures unbounded { UnboundedFalls }
+    ensures parts { EndedPartsFit }
+{
+    outcomes();
+    parts();
+    expansions();
+    schemes();
+    convex_arcs::laws::amounts();
+    filled_plans();
+    other_verdicts();
+}
 
 /// For a scheme, records are those of at most one plan.
 pub fn one_plan()

@@ -1,7 +1,8 @@
-//! Plan texts: the plan of one or its first fault, and the text of a plan.
+//! Plans: that of what a run has ended in, the plan of a plan text or its first fault, and the text of a plan.
 #![tactic(auto)]
 
 mod amounts;
+mod certifying;
 mod claims;
 mod fields;
 mod index;
@@ -13,6 +14,7 @@ mod rows;
 mod words;
 mod writing;
 
+pub use certifying::{TextRefusal, certify};
 pub use reading::read_plan;
 pub use refused::{PlanCode, PlanRefused};
 pub use writing::plan_text;

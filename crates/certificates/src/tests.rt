@@ -5,6 +5,8 @@ use std::alloc::Global;
 use std::test::Fail;
 use std::vec;
 
+mod ended;
+
 // A name of one letter.
 fn name(alloc: Global, letter: u8) -> Result<Name, Memory> {
     let mut items = Vec::new(alloc);

@@ -3,6 +3,7 @@ use Rattle.std.specs.Prelude.{◌≡◌, List}
 use Rattle.np_frac.specs.Ratio.{Ratio}
 use Rattle.np_model.specs.declared.scheme.Scheme.{Scheme}
 use Rattle.np_model.specs.Network.Flows.{Network, Least, plan_cost}
+use Rattle.np_model.specs.Network.Nets.{IsNet}
 use Rattle.np_model.specs.Scheme.Plans.{staged, IsLeastPlan, scheme_cost}
 use Rattle.convex_arcs.specs.Gathered.{flat_net, amounts_of}
 use Rattle.convex_arcs.specs.Filled.{filled_flows}
@@ -10,6 +11,10 @@ use Rattle.convex_arcs.specs.Filled.{filled_flows}
 -- the expanded network of a scheme: an arc for each segment of each flow in each period
 abbrev pub net_of : Scheme → Network
 net_of scheme = flat_net scheme.supply (staged scheme)
+
+-- it is a valid network
+abbrev pub ExpandedIsNet : Type 0
+ExpandedIsNet = (scheme : Scheme) → IsNet (net_of scheme).supply (net_of scheme).arcs
 
 -- the plan that flows of this network are gathered to, and the flows that a plan fills in
 abbrev pub gathered_plan : Scheme → List Ratio → List Ratio

@@ -2,7 +2,7 @@
 
 ghost use Rattle.convex_arcs.specs.Gathered.{GatheredIsExact, AmountsByPlace, AmountsBalance, AmountsFeasible, AmountsCostNoMore};
 ghost use Rattle.convex_arcs.specs.Filled.{FilledIsFeasible, FilledCostsTheSame, FilledGathersBack, GatheredIsLeast, LeastPlansFill, GatheredIsShown, ForbidsPlans, GatheredFalls};
-ghost use Rattle.convex_arcs.specs.Schemes.{LeastFlowsGather, LeastPlansAreFilled};
+ghost use Rattle.convex_arcs.specs.Schemes.{ExpandedIsNet, LeastFlowsGather, LeastPlansAreFilled};
 ghost use Rattle.convex_arcs.specs.Segments.{SegmentsStandInOrder, HasNoOtherSegments};
 
 use period_expand::laws::expansions;
@@ -38,9 +38,10 @@ pub fn filled_plans()
     ensures shown { GatheredIsShown }
 {}
 
-/// The expanded network of a scheme has the scheme's least cost: its flows of least cost are gathered to a plan of least
+/// The expanded network of a scheme is a valid network, and has the scheme's least cost: its flows of least cost are gathered to a plan of least
 /// cost of the scheme, at equal cost, and a plan of least cost of the scheme fills in flows of least cost.
 pub fn schemes()
+    ensures net { ExpandedIsNet }
     ensures gathers { LeastFlowsGather }
     ensures fills { LeastPlansAreFilled }
 {
