@@ -1,10 +1,14 @@
+pub mod OptionFacts
 pub mod WordFacts
 pub mod TextFacts
 pub mod AnswerFacts
 pub mod RunFacts
+pub mod SolveFacts
 pub mod NetFacts
 pub mod InputFacts
 pub mod OneReading
 pub mod OneAnswer
+pub mod OneVerdict
 pub mod SomeAnswer
 pub mod WrittenInput
+pub mod AcceptedFacts

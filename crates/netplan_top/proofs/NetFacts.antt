@@ -8,10 +8,9 @@ use Rattle.std.proofs.lemmas.List.Concat.{flat_map-append}
 use Rattle.std.proofs.lemmas.List.FromFn.{length-enumerate_from}
 use Rattle.np_records.specs.Texts.{record_text, records_text}
 use Rattle.np_model.specs.declared.arc.NetArc.{NetArc}
-use Rattle.np_model.specs.declared.scheme.Band.{Band}
 use Rattle.np_model.specs.Scheme.Segments.{Stage}
 use Rattle.np_model.specs.Scheme.Plans.{staged}
-use Rattle.convex_arcs.specs.Segments.{first_arc, band_arc, segment_arcs, flat_arcs}
+use Rattle.convex_arcs.specs.Segments.{band_arc, segment_arcs, flat_arcs}
 use Rattle.np_model.specs.declared.scheme.Scheme.{Scheme}
 use Rattle.netplan_top.specs.Texts.Frame.{end_record}
 use Rattle.netplan_top.specs.Texts.Network.{numbered_arcs, numbered_segments, segment_arc, arc_record, size_record, node_records, arc_records, net_text}

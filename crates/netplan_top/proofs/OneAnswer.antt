@@ -16,11 +16,11 @@ use Rattle.cert_checker.specs.declared.answer.CheckRefusal.TheVariants as refusa
 use Rattle.net_csv.specs.declared.refused.Tail.{Tail}
 use Rattle.net_csv.specs.declared.refused.Tail.TheVariants as tail
 use Rattle.netplan_top.specs.declared.words.Command.{Command}
-use Rattle.netplan_top.specs.declared.words.Command.TheVariants.{Check, Expand}
+use Rattle.netplan_top.specs.declared.words.Command.TheVariants.{Check, Expand, Solve}
 use Rattle.netplan_top.specs.Commands.Check.{HasNetwork, StandsFor, IsPlanFault, rest_of, Accepts, Rejects, Overflows, IsCheckAnswer}
 use Rattle.netplan_top.specs.Commands.Faults.{IsFault}
 use Rattle.netplan_top.specs.Commands.Expand.{IsNetwork, IsExpandAnswer}
-use Rattle.netplan_top.specs.Commands.Answers.{AnswerOf}
+use Rattle.netplan_top.specs.Commands.Answers.{AnswerOf, MakesNoRun}
 use Rattle.netplan_top.specs.Texts.Network.{net_text}
 use Rattle.netplan_top.specs.Texts.Frame.{refused_text}
 use Rattle.netplan_top.specs.Texts.Checked.{check_text, accepted_line, rejected_line, past_line}
@@ -185,12 +185,13 @@ same_expand_cause law input s t x y (ExpandCause.expanded a) (ExpandCause.expand
 
 -- ---- what a command says
 
-same_said : OneScheme → OnePlan → (command : Command) (input : List ℕ) (s t : ℕ) (x y : List ℕ) → AnswerOf command input s x → AnswerOf command input t y → said s x ≡ said t y
-same_said law plans Check input s t x y a b = same_pair law plans input s t x y a b
-same_said law plans Expand input s t x y a b = same_expand_cause law input s t x y (expand_cause_of input s x a) (expand_cause_of input t y b)
+same_said : OneScheme → OnePlan → (command : Command) (input : List ℕ) (s t : ℕ) (x y : List ℕ) → MakesNoRun command → AnswerOf command input s x → AnswerOf command input t y → said s x ≡ said t y
+same_said law plans (Solve job) input s t x y none a b = absurd none
+same_said law plans Check input s t x y none a b = same_pair law plans input s t x y a b
+same_said law plans Expand input s t x y none a b = same_expand_cause law input s t x y (expand_cause_of input s x a) (expand_cause_of input t y b)
 
-pub status_is : OneScheme → OnePlan → (command : Command) (input : List ℕ) (s t : ℕ) (x y : List ℕ) → AnswerOf command input s x → AnswerOf command input t y → s ≡ t
-status_is law plans command input s t x y a b = ap (λ p. p.0) (same_said law plans command input s t x y a b)
+pub status_is : OneScheme → OnePlan → (command : Command) (input : List ℕ) (s t : ℕ) (x y : List ℕ) → MakesNoRun command → AnswerOf command input s x → AnswerOf command input t y → s ≡ t
+status_is law plans command input s t x y none a b = ap (λ p. p.0) (same_said law plans command input s t x y none a b)
 
-pub text_is : OneScheme → OnePlan → (command : Command) (input : List ℕ) (s t : ℕ) (x y : List ℕ) → AnswerOf command input s x → AnswerOf command input t y → x ≡ y
-text_is law plans command input s t x y a b = ap (λ p. p.1) (same_said law plans command input s t x y a b)
+pub text_is : OneScheme → OnePlan → (command : Command) (input : List ℕ) (s t : ℕ) (x y : List ℕ) → MakesNoRun command → AnswerOf command input s x → AnswerOf command input t y → x ≡ y
+text_is law plans command input s t x y none a b = ap (λ p. p.1) (same_said law plans command input s t x y none a b)

@@ -5,13 +5,13 @@ use Rattle.np_records.specs.Records.{records_of}
 use Rattle.np_model.specs.declared.plan.Plan.{Plan}
 use Rattle.np_model.specs.declared.scheme.Scheme.{Scheme}
 use Rattle.np_model.specs.Scheme.Fits.{PlanFits}
-use Rattle.net_csv.specs.Grammar.{read_records, IsSchemeOf, StandsForAScheme}
+use Rattle.net_csv.specs.Grammar.{read_records, StandsForAScheme}
 use Rattle.net_csv.specs.Words.{code_word}
 use Rattle.net_csv.specs.declared.refused.Code.{Code}
 use Rattle.net_csv.specs.declared.refused.Tail.{Tail}
 use Rattle.net_csv.specs.declared.refused.Tail.TheVariants as tail
 use Rattle.certificates.specs.Claims.{outline_of}
-use Rattle.certificates.specs.Grammar.{plan_fault, IsPlanOf}
+use Rattle.certificates.specs.Grammar.{plan_fault}
 use Rattle.certificates.specs.Reading.{StandsForAPlan}
 use Rattle.certificates.specs.Words.{plan_code_word}
 use Rattle.certificates.specs.declared.refused.PlanCode.{PlanCode}
@@ -21,12 +21,12 @@ use Rattle.cert_checker.specs.declared.answer.Checked.{Checked}
 use Rattle.cert_checker.specs.declared.answer.CheckRefusal.{CheckRefusal}
 use Rattle.cert_checker.specs.declared.answer.CheckRefusal.TheVariants as refusal
 use Rattle.netplan_top.specs.declared.words.Command.{Command}
-use Rattle.netplan_top.specs.declared.words.Command.TheVariants.{Check, Expand}
+use Rattle.netplan_top.specs.declared.words.Command.TheVariants.{Check, Expand, Solve}
 use Rattle.netplan_top.specs.Texts.Checked.{check_text, accepted_line, rejected_line, past_line}
 use Rattle.netplan_top.specs.Texts.Frame.{refused_text}
 use Rattle.netplan_top.specs.Texts.Network.{net_text}
-use Rattle.netplan_top.specs.Commands.Check.{HasNetwork, rest_of, StandsFor}
-use Rattle.netplan_top.specs.Commands.Answers.{longest, HasAnswer}
+use Rattle.netplan_top.specs.Commands.Check.{HasNetwork, rest_of}
+use Rattle.netplan_top.specs.Commands.Answers.{longest, HasAnswer, MakesNoRun}
 use Rattle.netplan_top.specs.Steps.Judged.{IsJudged}
 use Rattle.netplan_top.specs.declared.commands.stop.Stop.TheVariants as stop
 use Rattle.netplan_top.proofs.AnswerFacts.{judged_accepted, judged_not_accepted, answer_judged, answer_stopped, expand_made, expand_stopped}
@@ -82,7 +82,8 @@ expand_answer schemes input few (Ok count) e =
 expand_answer schemes input few (Err (place, code)) e =
     (5, refused_text place (code_word code), expand_stopped input (refused.Fault place code) 5 (refused_text place (code_word code)) e (refl, refl))
 
-pub has_answer : ((bytes : List ℕ) → 2 * length (records_of bytes) ≤ length bytes + 1) → SchemesAreThere → PlansAreThere → WalkProves → WalkEnds → (command : Command) (input : List ℕ) → length input ≤ longest → HasAnswer command input
-has_answer law schemes plans proves ends Check input short =
+pub has_answer : ((bytes : List ℕ) → 2 * length (records_of bytes) ≤ length bytes + 1) → SchemesAreThere → PlansAreThere → WalkProves → WalkEnds → (command : Command) (input : List ℕ) → MakesNoRun command → length input ≤ longest → HasAnswer command input
+has_answer law schemes plans proves ends (Solve job) input none short = absurd none
+has_answer law schemes plans proves ends Check input none short =
     check_answer plans proves ends input schemes (few_records law input short) (read_records tail.Plan (records_of input)) refl
-has_answer law schemes plans proves ends Expand input short = expand_answer schemes input (few_records law input short) (read_records tail.Nothing (records_of input)) refl
+has_answer law schemes plans proves ends Expand input none short = expand_answer schemes input (few_records law input short) (read_records tail.Nothing (records_of input)) refl

@@ -1,26 +1,50 @@
 -- The words, and the command that they name.
-use Rattle.std.specs.Prelude.{◌≡◌, ℕ, List, [], ◌∷◌, length, map, codes}
+use Rattle.std.specs.Prelude.{◌≡◌, ℕ, List, [], ◌∷◌, map, codes}
 use Rattle.std.specs.String.{string_bytes}
 use Rattle.std.specs.declared.string.String.{String}
 use Rattle.std.specs.declared.alloc.Global.{Global}
 use Rattle.std.proofs.Common.{sym, ap, ◌∙◌, arith, get_or}
-use Rattle.netplan_top.specs.declared.words.Command.TheVariants.{Check, Expand}
-use Rattle.netplan_top.specs.Words.{AskFor, IsCommand}
-
--- the one word of a list
-pub one_item : {A B : Type 0} (f : A → B) (xs : List A) (x : A) → length xs ≡ 1 → x ≡ get_or xs 0 x → map f xs ≡ f x ∷ []
-one_item f [] x e is = absurd (omega arith)
-one_item f (y ∷ []) x e is = ap (λ z. f z ∷ []) (sym is)
-one_item f (y ∷ z ∷ zs) x e is = absurd (omega arith)
+use Rattle.netplan_top.specs.declared.words.Job.{Job}
+use Rattle.netplan_top.specs.declared.words.Command.{Command}
+use Rattle.netplan_top.specs.declared.words.Command.TheVariants.{Check, Expand, Solve}
+use Rattle.netplan_top.specs.Words.{AskFor, IsCommand, AskToSolve}
+use Rattle.netplan_top.specs.Steps.Solved.{IsWithinLimits}
+pub use Rattle.netplan_top.proofs.OptionFacts.{only_of as one_item}
+use Rattle.netplan_top.proofs.OptionFacts.{workers_within, budget_within, one_job}
 
 pub same_head : (a b : List ℕ) → a ∷ [] ≡ b ∷ [] → a ≡ b
 same_head a b e = cc e
 
--- words that name neither command name none
-pub no_command : (words : List (String Global)) → ¬ (map string_bytes words ≡ codes "check" ∷ []) → ¬ (map string_bytes words ≡ codes "expand" ∷ []) → ¬ (IsCommand words)
-no_command words check expand (Check, e) = check e
-no_command words check expand (Expand, e) = expand e
+-- words that name no command
+pub no_command : (words : List (String Global)) → ¬ (map string_bytes words ≡ codes "check" ∷ []) → ¬ (map string_bytes words ≡ codes "expand" ∷ [])
+    → ((job : Job) → ¬ (AskToSolve (map string_bytes words) job)) → ¬ (IsCommand words)
+no_command words check expand solve (Check, e) = check e
+no_command words check expand solve (Expand, e) = expand e
+no_command words check expand solve (Solve job, e) = solve job e
 
--- no words name both
+-- no words name two
+apart_words : (a : List (List ℕ)) (rest : List (List ℕ)) (word : List ℕ) → a ≡ word ∷ [] → a ≡ codes "solve" ∷ rest → word ≡ codes "solve"
+apart_words a rest word e f = cc (sym e ∙ f)
+
 pub apart : (words : List (String Global)) → AskFor words Check → AskFor words Expand → ⊥
 apart words a b = cc (sym a ∙ b)
+
+pub apart_check : (words : List (String Global)) (job : Job) → AskFor words (Solve job) → AskFor words Check → ⊥
+apart_check words job h e =
+    let same : ◌≡◌ {A = ℕ} 99 115 = ap (λ (l : List ℕ). get_or l 0 0) (apart_words (map string_bytes words) _ (codes "check") e h.words_are) in
+    omega arith
+
+pub apart_expand : (words : List (String Global)) (job : Job) → AskFor words (Solve job) → AskFor words Expand → ⊥
+apart_expand words job h e = cc (apart_words (map string_bytes words) _ (codes "expand") e h.words_are)
+
+-- words that ask for a job name no other command
+pub same_job : (words : List (String Global)) (command : Command) (job : Job) → AskFor words command → AskFor words (Solve job) → command ≡ Solve job
+same_job words (Solve own) job named asked = ap (λ (j : Job). Solve j) (one_job (map string_bytes words) own job named asked)
+same_job words Check job named asked = absurd (apart_check words job asked named)
+same_job words Expand job named asked = absurd (apart_expand words job asked named)
+
+-- the numbers of a command
+pub within_limits : (words : List (String Global)) (command : Command) → AskFor words command → IsWithinLimits command
+within_limits words (Solve job) h = (workers_within (map string_bytes words) job h, budget_within (map string_bytes words) job h)
+within_limits words Check h = tt
+within_limits words Expand h = tt

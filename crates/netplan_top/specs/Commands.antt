@@ -2,4 +2,5 @@
 pub mod Faults
 pub mod Check
 pub mod Expand
+pub mod Solve
 pub mod Answers

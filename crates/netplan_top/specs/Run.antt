@@ -1,18 +1,22 @@
 -- How a run ends: the status, what was read, and what was written.
-use Rattle.std.specs.Prelude.{◌≡◌, ℕ, ◌+◌, ◌<◌, ◌≤◌, ◌⊎◌, Option, List, length, codes, take}
+use Rattle.std.specs.Prelude.{◌≡◌, ℕ, ◌+◌, ◌<◌, ◌≤◌, ◌⊎◌, Option, Some, List, length, codes, take}
 use Rattle.std.specs.Io.KnownBytes.{prepend_known, append_known, IsAtEnd}
 use Rattle.std.specs.declared.string.String.{String}
 use Rattle.std.specs.declared.alloc.Global.{Global}
 use Rattle.np_io.specs.Faults.{Rose}
 use Rattle.np_io.specs.Input.{TookExactly}
+use Rattle.np_model.specs.declared.plan.Plan.{Plan}
+use Rattle.np_model.specs.declared.scheme.Scheme.{Scheme}
 use Rattle.net_csv.specs.declared.refused.Tail.TheVariants as tail
+use Rattle.netplan_top.specs.declared.words.Job.{Job}
 use Rattle.netplan_top.specs.declared.words.Command.{Command}
-use Rattle.netplan_top.specs.declared.words.Command.TheVariants.{Check, Expand}
+use Rattle.netplan_top.specs.declared.words.Command.TheVariants.{Check, Expand, Solve}
 use Rattle.netplan_top.specs.Words.{AskFor, IsCommand, usage_text}
 use Rattle.netplan_top.specs.Texts.Frame.{refused_text}
 use Rattle.netplan_top.specs.Commands.Faults.{IsFaulty}
 use Rattle.netplan_top.specs.Commands.Check.{Says, Accepts, Rejects, Overflows, IsPlanFaulty}
-use Rattle.netplan_top.specs.Commands.Expand.{Expands}
+use Rattle.netplan_top.specs.Commands.Expand.{Expands, IsNetwork}
+use Rattle.netplan_top.specs.Commands.Solve.{Solves, IsOptimal, IsInfeasible, IsUnbounded, IsOutOfBudget, IsOverflow}
 use Rattle.netplan_top.specs.Commands.Answers.{longest, AnswerOf}
 
 -- what the source and the sink had before a run (with no prime) and after it: the bytes that are left to read and those that were
@@ -63,6 +67,20 @@ pub record GivesTooLong (io : Streams) : Type 0 where
   pub too_long : IsTooLong io.left io.left' text
   pub wrote : Wrote io.written io.written' text
 
+-- a run of `solve` over the whole input ended so, and all of the text that says it was written
+abbrev pub GivesPlan : (Job → Scheme → Plan → Type 0) → List (String Global) → Streams → Type 0
+GivesPlan claim words io = (job : Job) × AskFor words (Solve job) × Gives (Solves claim job) io
+
+-- the source told its bytes, which are the network text of a scheme and not too long, and no stream failed
+pub record MeetsNoFault (io : Streams) : Type 0 where
+  pub input : List ℕ
+  pub scheme : Scheme
+  pub told : io.left ≡ Some input
+  pub short : length input ≤ longest
+  pub network : IsNetwork input scheme
+  pub source_held : ¬ (Rose io.source_faults io.source_faults')
+  pub sink_held : ¬ (Rose io.sink_faults io.sink_faults')
+
 -- a text that some status of the command allows
 abbrev pub IsSomeText : Command → Streams → List ℕ → Type 0
 IsSomeText command io text =
@@ -82,20 +100,26 @@ IsAllowed words io text = ((¬ (IsCommand words)) × (text ≡ usage_text)) ⊎ 
 
 -- ---- the statuses
 
-abbrev pub IsStatus : ℕ → Type 0
-IsStatus status =
-    (status ≡ 0) ⊎ (status ≡ 4) ⊎ (status ≡ 5) ⊎ (status ≡ 6) ⊎ (status ≡ 7) ⊎ (status ≡ 8) ⊎ (status ≡ 9) ⊎ (status ≡ 10)
-
 -- a run of these words over these streams ended with this status
 pub record IsRun (words : List (String Global)) (io : Streams) (status : ℕ) : Type 0 where
   -- the words are no command
   pub no_command : ¬ (IsCommand words) → (status ≡ 6) ⊎ (status ≡ 8)
   pub usage : status ≡ 6 → (¬ (IsCommand words)) × Wrote io.written io.written' usage_text
+  -- `solve` read the whole input, a run over its expanded network has ended so, and the text is that of its plan
+  pub optimal : (job : Job) → AskFor words (Solve job) → status ≡ 0 → Gives (Solves IsOptimal job) io
+  pub infeasible : status ≡ 1 → GivesPlan IsInfeasible words io
+  pub unbounded : status ≡ 2 → GivesPlan IsUnbounded words io
+  pub out_of_budget : status ≡ 3 → GivesPlan IsOutOfBudget words io
+  -- or the text names its first fault
+  pub not_solved : (job : Job) → AskFor words (Solve job) → status ≡ 5 → Gives (IsFaulty tail.Nothing) io ⊎ GivesTooLong io
+  -- of a network that it can read `solve` says one of the five, unless memory runs out
+  pub completes : (job : Job) → AskFor words (Solve job) → MeetsNoFault io → (status ≤ 4) ⊎ (status ≡ 9)
   -- `check` read the whole input, and the text says this of it
   pub accepted : AskFor words Check → status ≡ 0 → Gives (Says Accepts) io
-  pub overflowed : status ≡ 4 → AskFor words Check × Gives (Says Overflows) io
   pub rejected : status ≡ 10 → AskFor words Check × Gives (Says Rejects) io
   pub refused : AskFor words Check → status ≡ 5 → Gives (IsFaulty tail.Plan) io ⊎ Gives IsPlanFaulty io ⊎ GivesTooLong io
+  -- an operation overflows, of the walk of `check`, or of the run or the plan of `solve`
+  pub overflowed : status ≡ 4 → (AskFor words Check × Gives (Says Overflows) io) ⊎ GivesPlan IsOverflow words io
   -- `expand` read the whole input, and the text is that of its expanded network, or names its first fault
   pub expanded : AskFor words Expand → status ≡ 0 → Gives Expands io
   pub not_expanded : AskFor words Expand → status ≡ 5 → Gives (IsFaulty tail.Nothing) io ⊎ GivesTooLong io
@@ -103,4 +127,4 @@ pub record IsRun (words : List (String Global)) (io : Streams) (status : ℕ) : 
   pub unread_rest : status ≡ 7 → Rose io.source_faults io.source_faults' × (io.written' ≡ io.written)
   pub cut : status ≡ 8 → IsCut (IsAllowed words io) io
   pub no_memory : status ≡ 9 → IsCommand words × (io.written' ≡ io.written)
-  pub known : IsStatus status
+  pub known : status ≤ 10

@@ -2,16 +2,21 @@
 
 ghost use Rattle.std.specs.Prelude.{◌<◌, ◌^◌, IfOk, length};
 ghost use Rattle.netplan_top.specs.Commands.Answers.{AnswerOf};
+ghost use Rattle.netplan_top.specs.Steps.Solved.{IsWithinLimits};
 
 mod check;
 mod expand;
+mod solve;
 mod stop;
 
 use crate::words::Command;
 use check::check_answer;
 use expand::expand_answer;
 use np_frac::Memory;
+use np_model::Gate;
+use solve::solve_answer;
 use std::alloc::Global;
+use std::thread::Threads;
 
 /// A status, and the text that goes with it.
 #[derive(Drop)]
@@ -21,11 +26,19 @@ pub(crate) struct Answer {
 }
 
 /// What a command says of an input.
-pub(crate) fn answer_of(alloc: Global, command: Command, bytes: &[u8]) -> Result<Answer, Memory>
-    requires { length bytes.now < 2 ^ 32 }
+pub(crate) fn answer_of<G: Gate>(
+    rt: &(impl Threads + Sync),
+    alloc: Global,
+    command: Command,
+    bytes: &[u8],
+    gate: &G,
+) -> Result<Answer, Memory>
+    requires limits { IsWithinLimits command }
+    requires short { length bytes.now < 2 ^ 32 }
     ensures { IfOk result (λ answer. AnswerOf command bytes.now answer.status answer.text.items) }
 {
     match command {
+        Command::Solve(job) => solve_answer(rt, alloc, job, bytes, gate),
         Command::Check => check_answer(alloc, bytes),
         Command::Expand => expand_answer(alloc, bytes),
     }

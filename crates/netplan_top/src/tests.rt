@@ -103,6 +103,36 @@ netplan,1 | periods,1 | node,A | node,A | end | netplan-plan,2 | end > 5 > netpl
 netplan,1 | periods,1 | end > 5 > netplan-refused,1 | fault,4,NoEnd | end
 netplan,1 | periods,1 | node,A > 5 > netplan-refused,1 | fault,4,NoEnd | end";
 
+const USAGE: &str = "netplan-usage,1 | usage,solve [--workers N] [--budget N] [--log] | \
+    usage,check | usage,expand | end";
+
+// Words that are no command, in each line; none in the first.
+const NO_COMMANDS: &str = "
+check check
+expand check
+check --log
+Solve
+solve solve
+solve 4
+--log solve
+solve --workers
+solve --workers 0
+solve --workers 17
+solve --workers 00000001
+solve --workers +1
+solve --workers=1
+solve --workers one
+solve --workers --log
+solve --workers 1 --workers 1
+solve --budget
+solve --budget 0
+solve --budget 1000001
+solve --budget 10000000
+solve --budget 1 --log --budget 1
+solve --log --log
+solve --log 1
+solve --workers 1 --budget 1 --log now";
+
 fn bytes_of(alloc: Global, records: &str) -> Result<Vec<u8>, Fail> {
     let mut bytes = Vec::new(alloc);
     for record in records.split(" | ") {
@@ -262,8 +292,8 @@ fn tells_what_overflows(rt: HostRuntime) -> Result<(), Fail> {
 #[test]
 fn looks_at_the_words_first(rt: HostRuntime) -> Result<(), Fail> {
     let alloc = rt.alloc();
-    let usage = bytes_of(alloc, "netplan-usage,1 | usage,check | usage,expand | end")?;
-    for line in "check check,expand check,solve,".split(',') {
+    let usage = bytes_of(alloc, USAGE)?;
+    for line in NO_COMMANDS.lines() {
         let words = words_of(alloc, line)?;
         // A source that fails at its first call: it is not asked.
         let fails = Vec::from_slice(alloc, &[1])?;
@@ -340,3 +370,4 @@ fn refuses_what_is_too_long(rt: HostRuntime) -> Result<(), Fail> {
 }
 
 mod expand;
+mod solve;

@@ -9,4 +9,5 @@ pub(crate) use frame::refused;
 pub(crate) use network::net_text;
 
 /// The usage text: the commands that there are.
-pub const USAGE: &[u8] = b"netplan-usage,1\nusage,check\nusage,expand\nend\n";
+pub const USAGE: &[u8] =
+    b"netplan-usage,1\nusage,solve [--workers N] [--budget N] [--log]\nusage,check\nusage,expand\nend\n";

@@ -4,6 +4,7 @@ ghost use Rattle.std.specs.Prelude.{◌≡◌};
 ghost use Rattle.netplan_top.specs.Words.{IsCommand};
 ghost use Rattle.netplan_top.specs.Run.{IsRun};
 ghost use Rattle.netplan_top.specs.Steps.Endings.{IsPrinted, Ending};
+ghost use Rattle.netplan_top.specs.Steps.Solved.{IsWithinLimits};
 
 use crate::commands::answer_of;
 use crate::texts::{USAGE, refused};
@@ -24,12 +25,15 @@ fn print<K: Sink>(sink: &mut K, text: &[u8], status: u8) -> u8
 }
 
 // Reads the input, and writes what the command says of it.
-fn answer_input<S: Source, K: Sink>(
+fn answer_input<S: Source, K: Sink, G: Gate>(
+    rt: &(impl Threads + Sync),
     alloc: Global,
     command: Command,
     source: &mut S,
     sink: &mut K,
+    gate: &G,
 ) -> u8
+    requires limits { IsWithinLimits command }
     ensures { Ending command (record {
       left = S.left source.old;
       left' = S.left source.new;
@@ -43,7 +47,7 @@ fn answer_input<S: Source, K: Sink>(
     }) result }
 {
     match read_all(alloc, source) {
-        Ok(input) => match answer_of(alloc, command, &input) {
+        Ok(input) => match answer_of(rt, alloc, command, &input, gate) {
             Ok(answer) => print(sink, &answer.text, answer.status),
             Err(_) => 9,
         },
@@ -58,18 +62,26 @@ fn answer_input<S: Source, K: Sink>(
 
 /// Runs the command that the words name over the source and the sink, and answers the exit status.
 ///
-/// `check` reads a network text with a plan text behind it, and writes whether the plan shows what it claims. `expand`
-/// reads a network text, and writes its expanded network: a plain network with a node for each node in each period and an
-/// arc for each segment of each flow in each period. The whole text is made before its first byte is written. The words
-/// are looked at first: where they are no command, nothing is read and no memory is taken.
+/// `solve` reads a network text, makes pivots on its expanded network, and writes the plan of what that run ended in: with
+/// `--workers N` by 1 to 16 workers (4 where nothing is said), with `--budget N` by at most 1 to 1,000,000 pivots (200,000),
+/// and with `--log` the text has the pivots too, as it always has where the plan shows nothing. `check` reads a network text
+/// with a plan text behind it, and writes whether the plan shows what it claims. `expand` reads a network text, and writes its
+/// expanded network: a plain network with a node for each node in each period and an arc for each segment of each flow in each
+/// period. The whole text is made before its first byte is written. The words are looked at first: where they are no command,
+/// nothing is read and no memory is taken.
 ///
 /// | status | text | when |
 /// |---|---|---|
+/// | 0 | of `solve`: an optimal plan with its cost | no feasible plan costs less, as its prices show |
 /// | 0 | of `check`: accepted as optimal, with the cost | no feasible plan costs less |
 /// | 0 | of `check`: accepted as infeasible, with the gap | there is no feasible plan |
 /// | 0 | of `check`: accepted as unbounded | every cost is undercut by some feasible plan |
 /// | 0 | of `expand`: the expanded network | the input is a network text, and nothing stands behind it |
-/// | 4 | the operation | of `check`: its exact result does not fit a fraction, and all before it in the walk holds |
+/// | 1 | of `solve`: prices and their gap | there is no feasible plan, as they certify |
+/// | 2 | of `solve`: flows and a ray | every cost is undercut by some feasible plan along it |
+/// | 3 | of `solve`: an arc and the log | the run made as many pivots as the budget, and this arc may still enter |
+/// | 4 | of `solve`: the operation and the log | its exact result does not fit a fraction, in the run or in the sums of its plan |
+/// | 4 | of `check`: the operation | its exact result does not fit a fraction, and all before it in the walk holds |
 /// | 5 | the fault | the network text has this first fault; or, of `check`, it has none, and the plan text behind it has this one; or the input has more than 16,777,216 bytes (`TooLong`) |
 /// | 6 | usage | the words are no command |
 /// | 7 | nothing | the source failed |
@@ -77,14 +89,14 @@ fn answer_input<S: Source, K: Sink>(
 /// | 9 | nothing | memory ran out |
 /// | 10 | rejected, with the clause | of `check`: this clause does not hold, and all before it in the walk does |
 ///
-/// The handle and the gate are for commands that work in threads: `check` and `expand` use neither.
+/// The handle and the gate are for the workers of `solve`, which have no effect yet: one thread makes all pivots.
 pub fn run<S: Source, K: Sink, G: Gate>(
-    _rt: &(impl Threads + Sync),
+    rt: &(impl Threads + Sync),
     alloc: Global,
     words: &[String],
     source: &mut S,
     sink: &mut K,
-    _gate: &G,
+    gate: &G,
 ) -> u8
     // The words are no command: nothing is read.
     ensures unread { ¬ (IsCommand words.now) → source.new ≡ source.old }
@@ -105,5 +117,5 @@ pub fn run<S: Source, K: Sink, G: Gate>(
     let Some(command) = command_of(words) else {
         return print(sink, USAGE, 6);
     };
-    answer_input(alloc, command, source, sink)
+    answer_input(rt, alloc, command, source, sink, gate)
 }

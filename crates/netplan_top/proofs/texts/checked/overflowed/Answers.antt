@@ -1,6 +1,5 @@
-use Rattle.std.proofs.Common.{rules, ◌≡◌, ◌∙◌, ◌∷◌, [], codes, decimal}
+use Rattle.std.proofs.Common.{rules, ◌≡◌, ◌∙◌, ◌∷◌, [], codes}
 use Rattle.std.proofs.lemmas.Result.{IfOk-weaker}
-use Rattle.np_frac.specs.Text.{printed}
 use Rattle.np_records.specs.Texts.{record_text}
 use Rattle.netplan_top.specs.Texts.Checked.{past_line}
 use Rattle.netplan_top.proofs.TextFacts.{framed-is}

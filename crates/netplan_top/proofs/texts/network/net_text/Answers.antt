@@ -1,4 +1,4 @@
-use Rattle.std.proofs.Common.{rules, sym, ap, ◌≡◌, ◌∙◌, ◌++◌, [], length, codes}
+use Rattle.std.proofs.Common.{rules, ap, ◌≡◌, ◌∙◌, ◌++◌, [], length}
 use Rattle.std.proofs.lemmas.Result.{IfOk-weaker}
 use Rattle.np_records.specs.Texts.{record_text}
 use Rattle.convex_arcs.specs.Segments.{flat_arcs}

@@ -1,7 +1,6 @@
-use Rattle.std.proofs.Common.{refl, sym, ap, ◌≡◌, ◌∙◌, ◌+◌, ◌<◌, arith, length, take, append-nil}
+use Rattle.std.proofs.Common.{refl, sym, ap, ◌≡◌, ◌∙◌, ◌<◌, arith, length, append-nil}
 use Rattle.np_model.specs.Scheme.Segments.{Stage}
-use Rattle.np_model.specs.declared.arc.NetArc.{NetArc}
-use Rattle.convex_arcs.specs.Segments.{segment_arcs, flat_arcs}
+use Rattle.convex_arcs.specs.Segments.{segment_arcs}
 use Rattle.netplan_top.specs.Texts.Network.{arc_record}
 use Rattle.netplan_top.proofs.NetFacts.{stage-more, arcs-more, parted}
 use Rattle.netplan_top.proofs.texts.network.push_arcs.Goals as goal

@@ -1,4 +1,4 @@
-use Rattle.std.proofs.Common.{◌∙◌, ◌<◌, arith, length}
+use Rattle.std.proofs.Common.{◌∙◌}
 use Rattle.netplan_top.specs.Texts.Network.{arc_record}
 use Rattle.netplan_top.proofs.NetFacts.{arc-more}
 use Rattle.netplan_top.proofs.texts.network.push_segments.Goals as goal
