@@ -127,3 +127,18 @@ pub plain_same : (made : List Ticketed) (entries : List (ℕ × Pivoted)) (log :
     → AreSame made (ticketed_from 0 (map (λ (m : Pivoted). m.entry) log))
 plain_same made entries log is same g =
     ap (weigh g) is ∙ (weigh-map plain g entries ∙ (same (λ m. g (plain m)) ∙ (sym (weigh-map plain g (numbered 0 log)) ∙ ap (weigh g) (numbered-plain 0 log))))
+
+-- ---- entries in the order of their tickets
+
+rising_ticketed : (k n : ℕ) (es : List Entry) → k ≤ n → Rising k (ticketed_from n es)
+rising_ticketed k n [] le = tt
+rising_ticketed k n (e ∷ es) le = (le, rising_ticketed n (suc n) es (omega arith))
+
+-- logs whose numbered pivots are the same have the same entries, in the same order
+pub log_is_one : (log other : List Pivoted) → AreSame (numbered 0 log) (numbered 0 other) → map (λ (m : Pivoted). m.entry) log ≡ map (λ (m : Pivoted). m.entry) other
+log_is_one log other same =
+    let es : List Entry = map (λ (m : Pivoted). m.entry) log in
+    let fs : List Entry = map (λ (m : Pivoted). m.entry) other in
+    let one : ticketed_from 0 es ≡ ticketed_from 0 fs =
+    in_ticket_order 0 (ticketed_from 0 es) fs (rising_ticketed 0 0 es (omega arith)) (plain_same (ticketed_from 0 es) (numbered 0 log) other (sym (numbered-plain 0 log)) same) in
+    sym (seconds 0 es) ∙ (ap (map (λ (x : Ticketed). x.1)) one ∙ seconds 0 fs)

@@ -58,9 +58,9 @@ half v = record v { shares = v.shares - v.shares / 2 }
 abbrev pub other_half : View → View
 other_half v = record { opening = v.opening; shares = v.shares / 2; hands = []; slots = []; entries = []; got = []; looks = [] }
 
--- fold: shares and entries of both; the other pass is spent
+-- fold: shares, entries and looks of both; the other pass is spent
 abbrev pub folded : View → View → View
-folded v w = record v { shares = v.shares + w.shares; entries = v.entries ++ w.entries }
+folded v w = record v { shares = v.shares + w.shares; entries = v.entries ++ w.entries; looks = v.looks ++ w.looks }
 
 abbrev pub spent_view : View
 spent_view = record {

@@ -1,11 +1,11 @@
 -- Laws of lists compared by weight, and of the pieces that a pass has seen. (This project's own.)
-use Rattle.std.specs.Prelude.{◌≡◌, ℕ, ◌+◌, List, length}
+use Rattle.std.specs.Prelude.{◌≡◌, ℕ, ◌+◌, List, map, length}
 use Rattle.gain_graphs.specs.Arcs.{IsIn}
 use Rattle.np_model.specs.Basis.Pieces.{PieceLists}
 use Rattle.np_model.specs.declared.log.Entry.{Entry}
 use Rattle.tree_table.specs.Weights.{weigh, AreAmong, AreSame}
-use Rattle.tree_table.specs.Passes.{Opening, View, first_view}
-use Rattle.tree_table.specs.Replay.{HasSeen, Turns, Becomes}
+use Rattle.tree_table.specs.Passes.{Pivoted, Opening, View, first_view}
+use Rattle.tree_table.specs.Replay.{numbered, HasSeen, Turns, Becomes}
 use Rattle.tree_table.specs.Kinds.{pivoting}
 use Rattle.tree_table.specs.Calls.{emptied}
 
@@ -36,3 +36,7 @@ NextIsSeen = (v : View) (now : List PieceLists) (entry : Entry) (after : List Pi
     → Becomes v.opening v.hands entry after
     → (next : List PieceLists) × Turns v.opening now (record { entry = entry; before = v.hands; after = after }) next
     × HasSeen (emptied (pivoting v (length v.entries) entry after)) next
+
+-- logs whose pivots are the same under the same tickets have the same entries, in the same order
+abbrev pub LogIsOne : Type 0
+LogIsOne = (log other : List Pivoted) → AreSame (numbered 0 log) (numbered 0 other) → map (λ pivoted. pivoted.entry) log ≡ map (λ pivoted. pivoted.entry) other

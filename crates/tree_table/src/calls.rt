@@ -148,7 +148,7 @@ impl<T: Piece> TreeTable<T> {
         ticket
     }
 
-    /// The other pass ends, and its shares and entries go to the pass. It asks that the other one has nothing in hand, and that there is room for its
+    /// The other pass ends, and its shares, entries and looks go to the pass. It asks that the other one has nothing in hand, and that there is room for its
     /// entries. It looks at the clock, and at that moment the table is whole.
     pub fn fold(&self, pass: &mut Pass<T>, other: Pass<T>)
         requires table { IsOf self.now pass.old × IsOf self.now other }

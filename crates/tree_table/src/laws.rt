@@ -1,6 +1,6 @@
 //! The laws of what a table tells, as the clauses of functions that do nothing.
 
-ghost use Rattle.tree_table.specs.Laws.{MembersAreThere, OthersAreLeft, OpeningIsSeen, SeenIsKept, OneIsSeen, NextIsSeen};
+ghost use Rattle.tree_table.specs.Laws.{MembersAreThere, OthersAreLeft, OpeningIsSeen, SeenIsKept, OneIsSeen, NextIsSeen, LogIsOne};
 
 /// Lists compared by weight: pieces that are among others are members of them, and there are the pieces beside them.
 pub fn weights()
@@ -15,4 +15,9 @@ pub fn seen()
     ensures kept { SeenIsKept }
     ensures one { OneIsSeen }
     ensures next { NextIsSeen }
+{}
+
+/// Tickets put entries in order: two logs with the same pivots under the same tickets have the same entries, one after the other.
+pub fn tickets()
+    ensures { LogIsOne }
 {}
