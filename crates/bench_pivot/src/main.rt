@@ -3,9 +3,10 @@
 //! each network of 10 nodes once, and prints how many pivots that takes.
 //!
 //! Links join the nodes to one piece, and the arc of the first turn makes the flows feasible: that is as many pivots as nodes. From then on each
-//! pivot is a turn: the arc of the next turn stands at the cursor, and its price is below 0. It takes the place of the arc of the turn before,
-//! whose price is above 0 from then on. So 21 turns on 10 nodes are 30 pivots: 9 by links and 21 by turns, or, where turns join the two ends of
-//! the chain, 8 by its other links, one by the drain of its first node and 21 by turns.
+//! pivot is a turn: the arc of the next turn stands at the cursor, or comes next in the list of the round, and its price is below 0. It takes the
+//! place of the arc of the turn before, whose price is above 0 from then on. So 21 turns on 10 nodes are 30 pivots: 9 by links and 21 by turns. Where
+//! turns join the two ends of the chain they are 29, by its 8 other links, by the drain of its first node, and by 20 turns: the arc of the second
+//! turn comes in the first round, before that of the first turn can, which then never enters. `run_alone` of tests/pivots.py counts the same.
 #![tactic(auto)]
 
 ghost use Rattle.std.specs.Prelude.{◌≡◌, ◌<◌, ◌≤◌};

@@ -1,8 +1,8 @@
 -- The amounts of a direction as a list by arc.
-use Rattle.std.specs.Prelude.{◌≡◌, ◌≢◌, ◌⊎◌, ℕ, ◌<◌, ◌≤◌, List, [], ◌∷◌, length, map, slice_index_or, slice_set}
+use Rattle.std.specs.Prelude.{◌≡◌, ℕ, ◌<◌, ◌≤◌, List, [], ◌∷◌, length, map, slice_set}
 use Rattle.std.specs.List.{range_with_len}
 use Rattle.std.specs.List.Sorted.{IsStrictlyIncreasing}
-use Rattle.std.proofs.Common.{refl, sym, ap, subst, ◌∙◌, inl, inr, arith, zero, suc}
+use Rattle.std.proofs.Common.{refl, sym, ap, ◌∙◌, inl, inr, arith, zero, suc}
 use Rattle.std.proofs.lemmas.List.{ext_get_or}
 use Rattle.std.proofs.lemmas.List.FromFn.{get_or-map-range_with_len, length-map-range_with_len}
 use Rattle.gain_graphs.specs.Arcs.{IsIn}
@@ -15,7 +15,7 @@ use Rattle.np_basis.proofs.Ascending.{ascends}
 use Rattle.np_basis.proofs.Reading.{Found, beside_in, beside_out}
 use Rattle.np_basis.proofs.Sound.{one_entry}
 use Rattle.simplex_driver.specs.Store.{written}
-use Rattle.simplex_driver.proofs.Tables.{Has, length_written, written_has, written_off}
+use Rattle.simplex_driver.proofs.Tables.{Has, length_written, written_has}
 
 -- a write behind the end changes nothing
 pub set_beyond : {A : Type 0} (xs : List A) (i : ℕ) (x : A) → length xs ≤ i → slice_set xs i x ≡ xs

@@ -1,9 +1,9 @@
 -- The pieces that an arc needs, by the homes of its ends.
-use Rattle.std.specs.Prelude.{Bool, true, false, ◌==◌, ◌≡◌, ◌≢◌, ◌⊎◌, ◌↔◌, ℕ, ◌<◌, List, [], ◌∷◌, ◌++◌, length, map, Option, Some, None, slice_index_or, slice_set}
+use Rattle.std.specs.Prelude.{Bool, true, false, ◌==◌, ◌≡◌, ◌≢◌, ◌↔◌, ℕ, ◌<◌, List, [], ◌∷◌, length, map, Some, slice_index_or, slice_set}
 use Rattle.std.specs.List.{All, flat_map}
 use Rattle.std.proofs.Common.{refl, sym, ap, subst, ◌∙◌, inl, inr, arith, zero, suc}
-use Rattle.gain_graphs.specs.Arcs.{IsIn, AreDistinct}
-use Rattle.gain_graphs.proofs.Lists.{in_map, in_map_of, in_append, in_front, in_back, distinct_append}
+use Rattle.gain_graphs.specs.Arcs.{IsIn}
+use Rattle.gain_graphs.proofs.Lists.{in_map, in_map_of, in_front, distinct_append}
 use Rattle.np_frac.specs.Ratio.{Ratio}
 use Rattle.np_model.specs.declared.arc.Ends.{Ends}
 use Rattle.np_model.specs.declared.arc.Ends.TheVariants.{Link, Drain, Feed}
@@ -37,7 +37,7 @@ use Rattle.np_basis.proofs.Sound.{alone_apart}
 use Rattle.quasi_tree.specs.Store.{Store}
 use Rattle.piece_lists.specs.Parts.{lists_in}
 use Rattle.simplex_driver.specs.declared.forest.Forest.{Forest}
-use Rattle.simplex_driver.specs.Store.{state_of, slot_at, home_at, homes_needed, HasHome, HaveHomes, LiesWithin, Holds, IsKept, written, filled, emptied, stores_in, homes_of, potentials_of, flows_written}
+use Rattle.simplex_driver.specs.Store.{state_of, slot_at, home_at, homes_needed, HasHome, HaveHomes, LiesWithin, Holds, IsKept, written, filled, emptied, lists_all, stores_in, homes_of, potentials_of, flows_written}
 use Rattle.simplex_driver.specs.Picks.{CanPivot}
 use Rattle.simplex_driver.proofs.Stepped as steps
 use Rattle.simplex_driver.proofs.Stepped.{some_one, slot_below, has_least}
@@ -61,7 +61,7 @@ same_state p q e f g =
     ∙ ap (λ n. let z : State = record { marks = q.marks; flows = n; potentials = p.potentials } in z) f
     ∙ ap (λ n. let z : State = record { marks = q.marks; flows = q.flows; potentials = n } in z) g
 
-all_lists : (change : Hands Store) → steps.lists_all (stores_in change) ≡ lists_in change
+all_lists : (change : Hands Store) → lists_all (stores_in change) ≡ lists_in change
 all_lists (One p) = refl
 all_lists (Two p q) = refl
 
@@ -70,7 +70,7 @@ place_in [] d k l = absurd (omega (arith, l))
 place_in (y ∷ ys) d zero l = inl refl
 place_in (y ∷ ys) d (suc k) l = inr (place_in ys d k (omega (arith, l)))
 
-some_node : (p : PieceLists) (v : ℕ) → IsIn v (nodes_in p) → 0 < length p.nodes
+pub some_node : (p : PieceLists) (v : ℕ) → IsIn v (nodes_in p) → 0 < length p.nodes
 some_node p v i = go p.nodes i
   where
     go : (ns : List (ℕ × Ratio)) → IsIn v (map (λ n. n.0) ns) → 0 < length ns
@@ -300,7 +300,7 @@ module _ (net : Network) (real : ℕ) (grounded : HasRealArcs net real) (f : For
         let holds = steps.holds_after net real grounded (state_of f) st f.slots.items f.homes.items kept can.pieces can.pieces_of (homes_needed f.homes.items (ends_at net.arcs entry.enter)) cover entry x.0 x.1 (stores_in change) after holds_ends in (
           subst (IsPivot net real (state_of f) entry) (sym is) x.1,
           subst (Holds net (values_of (state_of g)) g.slots.items) (sym (b ∙ ap (λ ls. written (flat_map homes_of ls) f.homes.items) (sym (all_lists change))))
-              (subst (λ ss. Holds net (values_of (state_of g)) ss (written (flat_map homes_of (steps.lists_all (stores_in change))) f.homes.items)) (sym a)
+              (subst (λ ss. Holds net (values_of (state_of g)) ss (written (flat_map homes_of (lists_all (stores_in change))) f.homes.items)) (sym a)
               (subst (λ w. Holds net (values_of w) (written (filled (stores_in change)) (written (emptied (homes_needed f.homes.items (ends_at net.arcs entry.enter))) f.slots.items))
-              (written (flat_map homes_of (steps.lists_all (stores_in change))) f.homes.items)) (sym is) holds)),
+              (written (flat_map homes_of (lists_all (stores_in change))) f.homes.items)) (sym is) holds)),
         )

@@ -1,17 +1,16 @@
 -- The run of the driver goes on.
-use Rattle.std.specs.Prelude.{◌≡◌, ◌≢◌, ◌⊎◌, ℕ, ◌+◌, ◌<◌, ◌≤◌, ◌==◌, ◌-◌, List, [], ◌∷◌, ◌++◌, length, Bool, true, false, Option, Some, None}
-use Rattle.std.proofs.Common.{refl, sym, ap, subst, ◌∙◌, inl, inr, arith}
+use Rattle.std.specs.Prelude.{◌≡◌, ℕ, ◌<◌, ◌≤◌, ◌==◌, ◌-◌, List, [], ◌∷◌, ◌++◌, length, Bool, false, Option, Some, None}
+use Rattle.std.proofs.Common.{refl, sym, ap, subst, ◌∙◌, arith}
 use Rattle.std.proofs.lemmas.List.{length-append}
-use Rattle.np_frac.specs.Ratio.{Ratio, zero_ratio}
+use Rattle.np_frac.specs.Ratio.{Ratio}
 use Rattle.np_frac.specs.Fits.{Fits}
 use Rattle.np_model.specs.declared.log.Entry.{Entry}
 use Rattle.np_model.specs.declared.log.Log.{Log}
 use Rattle.np_model.specs.declared.network.FullNet.{FullNet}
-use Rattle.np_model.specs.declared.phase.Phase.{Phase}
 use Rattle.np_model.specs.declared.phase.Phase.TheVariants.{One, Two}
 use Rattle.np_model.specs.declared.rows.Overflow.{Overflow}
 use Rattle.np_model.specs.Network.Flows.{Network, at}
-use Rattle.np_model.specs.Basis.Phases.{network_of, phase_net, real_arcs, with_artificial}
+use Rattle.np_model.specs.Basis.Phases.{network_of, phase_net, real_arcs}
 use Rattle.np_model.specs.Basis.Pivots.{IsPivot}
 use Rattle.np_model.specs.Basis.Starts.{artificial_ends, start_state, start_net}
 use Rattle.np_model.specs.Basis.Graphs.{ends_at, cost_at}
@@ -19,14 +18,14 @@ use Rattle.np_model.specs.Basis.Pieces.{basics_in}
 use Rattle.np_model.specs.Basis.States.{State, values_of, IsPieceOf, IsState}
 use Rattle.np_model.specs.Rows.Potentials.{ArePriced, PotentialsGive}
 use Rattle.np_runs.specs.Ended.{StartFits, EndsOverflow, at_turn}
-use Rattle.np_runs.specs.Runs.{HasNoArtificialFlow, RunLeads, PivotsLead, IsTurn, stage_of}
+use Rattle.np_runs.specs.Runs.{HasNoArtificialFlow, PivotsLead, stage_of}
 use Rattle.np_runs.specs.Verdicts.{SuppliesFit, StartGivesResiduals}
 use Rattle.np_basis.proofs.Starting.{start_is_state}
-use Rattle.np_runs.proofs.Following.{run_goes_on, run_turns}
+use Rattle.np_runs.proofs.Following.{run_goes_on}
 use Rattle.simplex_driver.specs.declared.forest.Forest.{Forest}
 use Rattle.simplex_driver.specs.Store.{state_of, IsKept}
 use Rattle.simplex_driver.specs.Turns.{CarriesFrom, PieceOverflows}
-use Rattle.simplex_driver.specs.Runs.{IsGood, Goes, IsStopped, IsSpent}
+use Rattle.simplex_driver.specs.Runs.{IsGood, Goes, IsStopped}
 use Rattle.simplex_driver.proofs.Ending.{net_is, log_of_parts}
 
 -- no artificial arc carries anything, as the flows behind the real ones are 0
@@ -54,6 +53,16 @@ goes_on full good turned entries entry f g goes pivot kept = record {
   run = run_goes_on (network_of full.net) turned entries (entry ∷ []) (state_of f) (state_of g) goes.run
       (state_of g, subst (λ n. IsPivot n (real_arcs full) (state_of f) entry (state_of g)) (net_is full good (stage_of turned)) pivot, refl);
   is_state = pivot.is_state;
+  kept = kept;
+}
+
+-- and several more
+pub goes_far : (full : FullNet) → IsGood full → (turned : Option ℕ) (entries made : List Entry) (f g : Forest) → Goes full turned entries f
+    → PivotsLead (stage_of turned) (network_of full.net) (state_of f) made (state_of g) → IsState (phase_net (stage_of turned) full) (state_of g)
+    → IsKept (phase_net (stage_of turned) full) g → Goes full turned (entries ++ made) g
+goes_far full good turned entries made f g goes leads st kept = record {
+  run = run_goes_on (network_of full.net) turned entries made (state_of f) (state_of g) goes.run leads;
+  is_state = st;
   kept = kept;
 }
 
@@ -86,8 +95,13 @@ unspent read budget entries n few spent = grind (arith, n, few, spent)
 pub few_more : (entries now : List Entry) (entry : Entry) (budget : ℕ) → now ≡ entries ++ entry ∷ [] → length entries < budget → length now ≤ budget
 few_more entries now entry budget e l = omega (arith, ap length e, length-append entries (entry ∷ []), l)
 
-pub smaller : (entries now : List Entry) (entry : Entry) (budget : ℕ) → now ≡ entries ++ entry ∷ [] → length entries < budget → budget - length now < budget - length entries
-smaller entries now entry budget e l = omega (arith, ap length e, length-append entries (entry ∷ []), l)
+-- and so there is with the pivots of a round behind it
+pub few_all : (pushed now made : List Entry) (count budget : ℕ) → now ≡ pushed ++ made → count ≡ length pushed → length pushed ≤ budget → length made ≤ budget - count → length now ≤ budget
+few_all pushed now made count budget e n l k = omega (arith, ap length e, length-append pushed made, n, l, k)
+
+pub smaller_by : (entries pushed now made : List Entry) (entry : Entry) (budget : ℕ) → pushed ≡ entries ++ entry ∷ [] → now ≡ pushed ++ made → length entries < budget
+    → budget - length now < budget - length entries
+smaller_by entries pushed now made entry budget e f l = omega (arith, ap length e, ap length f, length-append entries (entry ∷ []), length-append pushed made, l)
 
 -- the start, where no residual overflows
 pub opened : (full : FullNet) (f : Forest) → StartGivesResiduals → SuppliesFit (network_of full.net) → IsGood full → state_of f ≡ start_state (network_of full.net)

@@ -1,21 +1,18 @@
 -- What the steps without a pivot say of the run.
-use Rattle.std.specs.Prelude.{◌≡◌, ℕ, ◌<◌, ◌≤◌, List, [], length, take, map, Bool, true, false, Option, Some, None}
-use Rattle.std.specs.List.{range_with_len}
-use Rattle.std.proofs.Common.{refl, sym, ap, subst, ◌∙◌, arith}
-use Rattle.np_frac.specs.Ratio.{Ratio, zero_ratio}
+use Rattle.std.specs.Prelude.{◌≡◌, ℕ, ◌<◌, ◌≤◌, List, length, Bool, false, Option, None}
+use Rattle.std.proofs.Common.{sym, ap, subst, ◌∙◌}
 use Rattle.np_model.specs.declared.log.Entry.{Entry}
 use Rattle.np_model.specs.declared.log.Log.{Log}
 use Rattle.np_model.specs.declared.network.FullNet.{FullNet}
 use Rattle.np_model.specs.declared.phase.Phase.{Phase}
-use Rattle.np_model.specs.declared.phase.Phase.TheVariants.{One, Two}
+use Rattle.np_model.specs.declared.phase.Phase.TheVariants.{One}
 use Rattle.np_model.specs.declared.piece.Direction.{Direction}
 use Rattle.np_model.specs.declared.rows.Overflow.{Overflow}
 use Rattle.np_model.specs.Network.Flows.{Network}
 use Rattle.np_model.specs.Basis.Phases.{network_of, phase_net, with_artificial, real_arcs}
-use Rattle.np_model.specs.Basis.Pieces.{beside}
 use Rattle.np_model.specs.Basis.Starts.{start_net}
 use Rattle.np_model.specs.Basis.States.{State, values_of, IsState}
-use Rattle.np_runs.specs.Ended.{HasRun, EndsUnbounded, EndsOverflow, at_attempts, AttemptFindsRay}
+use Rattle.np_runs.specs.Ended.{HasRun, EndsOverflow, at_attempts, AttemptFindsRay}
 use Rattle.np_runs.specs.Runs.{IsLiveIn, stage_of}
 use Rattle.np_runs.specs.Verdicts.{NoneFindsRayInStageOne}
 use Rattle.simplex_driver.specs.declared.forest.Forest.{Forest}

@@ -1,7 +1,7 @@
 -- Pieces that are put into their slots, one behind the other.
-use Rattle.std.specs.Prelude.{◌≡◌, ℕ, ◌<◌, List, [], ◌∷◌, ◌++◌, length}
+use Rattle.std.specs.Prelude.{◌≡◌, ℕ, List, [], ◌∷◌, ◌++◌, length}
 use Rattle.std.specs.List.{All, flat_map}
-use Rattle.std.proofs.Common.{sym, ap, subst, ◌∙◌, arith}
+use Rattle.std.proofs.Common.{sym, subst, ◌∙◌, arith}
 use Rattle.np_model.specs.declared.piece.Hands.{Hands}
 use Rattle.np_model.specs.declared.piece.Hands.TheVariants.{One, Two}
 use Rattle.np_model.specs.Basis.Needed.{lists_held}

@@ -11,3 +11,8 @@ pub mod Amounts
 pub mod Ending
 pub mod Driving
 pub mod Opened
+pub mod Emptied
+pub mod Homing
+pub mod Brought
+pub mod Rounded
+pub mod Seeing

@@ -1,7 +1,10 @@
 -- The marks of the real arcs alone say which arcs may enter.
-use Rattle.std.specs.Prelude.{◌≡◌, ◌≢◌, ◌⊎◌, ◌↔◌, ℕ, ◌<◌, ◌≤◌, List, [], ◌∷◌, length, take, Result, Ok, Err, MatchResult, IfOk, slice_index_or}
-use Rattle.std.specs.Result.{IsOk}
-use Rattle.std.proofs.Common.{refl, sym, ap, subst, ◌∙◌, inl, inr, arith, zero, suc}
+use Rattle.std.specs.Prelude.{◌≡◌, ◌↔◌, ℕ, ◌-◌, ◌<◌, ◌≤◌, List, [], ◌∷◌, length, take, min, Result, Ok, Err, MatchResult, IfOk, slice_index_or}
+use Rattle.std.specs.List.{All, range_with_len}
+use Rattle.std.proofs.lemmas.List.{length-append}
+use Rattle.std.proofs.lemmas.List.FromFn.{length-range_with_len}
+use Rattle.std.proofs.lemmas.List.Sums.{length-filter, count_by-le-length}
+use Rattle.std.proofs.Common.{refl, sym, ap, subst, ◌∙◌, arith, zero, suc}
 use Rattle.gain_graphs.specs.Arcs.{IsIn}
 use Rattle.np_frac.specs.Ratio.{Ratio}
 use Rattle.np_model.specs.declared.log.Mark.{Mark}
@@ -10,8 +13,9 @@ use Rattle.np_model.specs.declared.rows.Overflow.{Overflow}
 use Rattle.np_model.specs.Network.Flows.{Network}
 use Rattle.np_model.specs.Basis.Graphs.{arc_at}
 use Rattle.np_model.specs.Basis.Moves.{IsEligible, Gains}
+use Rattle.arc_pricing.specs.Prices.{is_eligible}
 use Rattle.np_model.specs.Basis.States.{State, Values, values_of, price}
-use Rattle.arc_pricing.specs.Candidates.{cyclic, values_by, PriceFits, AreCandidates, IsFirstOverflow, IsCause}
+use Rattle.arc_pricing.specs.Candidates.{cyclic, values_by, AreCandidates, IsFirstOverflow, IsCause}
 use Rattle.arc_pricing.specs.Laws.{CyclicHasAll}
 use Rattle.arc_pricing.specs.declared.refusal.PriceRefusal.{PriceRefusal}
 use Rattle.arc_pricing.specs.declared.refusal.PriceRefusal.TheVariants as refusal
@@ -35,11 +39,23 @@ module _ (net : Network) (real : ℕ) (s : State) (part : List Mark) (is : part 
   of_state : (a : ℕ) → IsEligible net real (values_of s) a → IsEligible net real (values_by part s.potentials) a
   of_state a h = record { is_open = h.is_open; gains = subst (λ m. Gains m (price (values_of s).potential (arc_at net.arcs a))) (sym (same_mark a h.is_open.0)) h.gains }
 
+  -- they are no more than the real arcs
+  few_listed : (from : ℕ) (list : List ℕ) → AreCandidates net real (values_by part s.potentials) (cyclic from real) list → length list ≤ real
+  few_listed from list h =
+      let n = ap length h.eligible in
+      let a = length-filter (is_eligible net real (values_by part s.potentials)) (cyclic from real) in
+      let b = count_by-le-length (is_eligible net real (values_by part s.potentials)) (cyclic from real) in
+      let c = length-append (range_with_len from (real - from)) (range_with_len 0 (min from real)) in
+      let d = length-range_with_len from (real - from) in
+      let e = length-range_with_len 0 (min from real) in
+      omega (arith, n, a, b, c, d, e)
+
   pub are_listed : (cyclic_all : CyclicHasAll) (from : ℕ) (list : List ℕ) → AreCandidates net real (values_by part s.potentials) (cyclic from real) list
       → ((a : ℕ) → IsIn a list ↔ IsEligible net real (values_by part s.potentials) a) → AreListed net real (values_of s) list
   are_listed cyclic_all from list h all = (
     (λ a o. h.fit a ((cyclic_all from real a).1 o.0.0) (o.0, λ e. o.1 (sym (same_mark a o.0.0) ∙ e))),
     (λ a. ((λ i. to_state a ((all a).0 i)), (λ e. (all a).1 (of_state a e)))),
+    few_listed from list h,
   )
 
   pub price_overflows : (from : ℕ) (overflow : Overflow) → IsFirstOverflow net real (values_by part s.potentials) (cyclic from real) overflow → APriceOverflows net real (values_of s) overflow
@@ -80,6 +96,11 @@ listed_by net real s part potentials is same cyclic_all from result h all =
 
 pub part_is : (part given marks : List Mark) (count real : ℕ) → part ≡ take count given → given ≡ marks → count ≡ real → part ≡ take real marks
 part_is part given marks count real e f n = e ∙ ap (take count) f ∙ ap (λ k. take k marks) n
+
+-- listed arcs are real
+pub listed_real : (net : Network) (real : ℕ) (s : Values) (list slice : List ℕ) → slice ≡ list → AreListed net real s list → All (λ a. a < real) slice
+listed_real net real s list slice same h k d l =
+    ((h.1 (slice_index_or slice k d)).0 (subst (IsIn (slice_index_or slice k d)) same (place_in slice d k l))).is_open.0
 
 -- the first entry of a list that has one
 pub first_in : (list items : List ℕ) (x : ℕ) → x ≡ slice_index_or items 0 x → items ≡ list → 0 < length items → IsIn x list

@@ -1,11 +1,11 @@
 -- After the turn the pieces and the table of potentials are those of a state of stage two.
-use Rattle.std.specs.Prelude.{◌≡◌, ◌≢◌, ◌⊎◌, ◌↔◌, ℕ, ◌<◌, List, [], ◌∷◌, length, map, slice_index, Option, Some, None, Result, Ok, Err, MatchResult, IfOk}
+use Rattle.std.specs.Prelude.{◌≡◌, ◌≢◌, ◌↔◌, ℕ, ◌<◌, List, [], ◌∷◌, length, map, slice_index, Option, Some, None, Result, Ok, Err, MatchResult, IfOk}
 use Rattle.std.specs.List.Sorted.{IsStrictlyIncreasing}
-use Rattle.std.proofs.Common.{refl, sym, ap, subst, ◌∙◌, inl, inr, arith}
+use Rattle.std.proofs.Common.{refl, sym, ap, subst, ◌∙◌, inl, arith}
 use Rattle.gain_graphs.specs.Arcs.{IsIn, Touches}
 use Rattle.gain_graphs.specs.Forests as forests
 use Rattle.gain_graphs.specs.QuasiTrees.{LiesIn}
-use Rattle.gain_graphs.proofs.Lists.{in_map, in_map_of}
+use Rattle.gain_graphs.proofs.Lists.{in_map_of}
 use Rattle.gain_graphs.proofs.Theorems as theorems
 use Rattle.np_frac.specs.Ratio.{Ratio, zero_ratio}
 use Rattle.np_frac.specs.Fits.{Fits}
@@ -14,14 +14,14 @@ use Rattle.np_model.specs.declared.arc.Ends.TheVariants.{Link, Drain, Feed}
 use Rattle.np_model.specs.declared.log.Mark.{Mark}
 use Rattle.np_model.specs.declared.log.Mark.TheVariants as marked
 use Rattle.np_model.specs.declared.phase.Phase.TheVariants.{One, Two}
-use Rattle.np_model.specs.Network.Arcs.{tail_of, head_of, reduced_cost}
+use Rattle.np_model.specs.Network.Arcs.{tail_of}
 use Rattle.np_model.specs.Network.Flows.{Network, at}
 use Rattle.np_model.specs.Basis.Graphs.{ratios, graph_of, graph_ends, arc_at, ends_at, cost_at}
 use Rattle.np_model.specs.declared.network.FullNet.{FullNet}
-use Rattle.np_model.specs.Basis.Phases.{with_artificial, phase_arcs, network_of, phase_net}
+use Rattle.np_model.specs.Basis.Phases.{with_artificial, network_of, phase_net}
 use Rattle.np_model.specs.Basis.Pieces.{PieceLists, nodes_in, basics_in, marked_in, least_node, beside}
-use Rattle.np_model.specs.Basis.Starts.{artificial_ends, start_net}
-use Rattle.np_model.specs.Basis.States.{State, Values, values_of, basics, price, IsPart, IsPieceOf, IsState}
+use Rattle.np_model.specs.Basis.Starts.{artificial_ends}
+use Rattle.np_model.specs.Basis.States.{State, values_of, basics, price, IsPart, IsPieceOf, IsState}
 use Rattle.np_model.specs.Rows.Potentials.{ArePriced, PotentialsFit}
 use Rattle.np_basis.specs.Laws.{HasSoundArcs}
 use Rattle.np_basis.proofs.Ascending.{same_rising}
@@ -31,25 +31,24 @@ use Rattle.np_basis.proofs.Directions as directions
 use Rattle.np_basis.proofs.Held as held
 use Rattle.np_basis.proofs.Reading.{Found, beside_in, price_same, rows_same, piece_is_sound}
 use Rattle.np_runs.specs.Runs.{IsTurn, AreOfTurn, HasNoArtificialFlow}
-use Rattle.np_runs.proofs.Stages.{same_ends, same_basics, same_length, part_stays, in_net_stays, pieces_stay}
+use Rattle.np_runs.proofs.Stages.{same_ends, same_basics, part_stays, in_net_stays, pieces_stay}
 use Rattle.np_runs.proofs.Turning.{turn_is}
 use Rattle.quasi_tree.specs.Store.{Store}
 use Rattle.np_basis.proofs.Fulls.{full_net_is_sound}
-use Rattle.tree_potentials.specs.Answers.{HasPotentials}
 use Rattle.tree_potentials.specs.declared.refusal.PotentialRefusal.{PotentialRefusal}
 use Rattle.simplex_driver.specs.declared.forest.Forest.{Forest}
 use Rattle.simplex_driver.specs.Store.{state_of, slot_at, home_at, Holds, IsKept}
 use Rattle.simplex_driver.specs.Turns.{CanTurn, IsPieceTurned, IsSlotTurned, AreTurned, IsTurnCause}
 use Rattle.simplex_driver.proofs.Attempts.{one_piece, same_state}
-use Rattle.simplex_driver.proofs.Stepped.{some_one, none_some, slot_below, has_least}
+use Rattle.simplex_driver.proofs.Stepped.{some_one, none_some, slot_below}
 
 -- an end of an arc
-touch_tail : (ns : List ℕ) (e : Ends) → IsIn (tail_of e) ns → Touches ns (graph_ends e)
+pub touch_tail : (ns : List ℕ) (e : Ends) → IsIn (tail_of e) ns → Touches ns (graph_ends e)
 touch_tail ns (Link i j g) h = inl h
 touch_tail ns (Drain v) h = h
 touch_tail ns (Feed v) h = h
 
-tail_below : (n : ℕ) (e : Ends) → forests.IsValid ratios n (graph_ends e) → tail_of e < n
+pub tail_below : (n : ℕ) (e : Ends) → forests.IsValid ratios n (graph_ends e) → tail_of e < n
 tail_below n (Link i j g) h = h.0
 tail_below n (Drain v) h = h
 tail_below n (Feed v) h = h

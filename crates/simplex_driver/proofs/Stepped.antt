@@ -1,5 +1,5 @@
 -- After a pivot the slots and homes are those of the state afterwards.
-use Rattle.std.specs.Prelude.{◌≡◌, ◌≢◌, ◌⊎◌, ◌↔◌, ℕ, ◌<◌, List, [], ◌∷◌, length, map, slice_index, Option, Some, None}
+use Rattle.std.specs.Prelude.{◌≡◌, ◌⊎◌, ◌↔◌, ℕ, ◌<◌, List, [], ◌∷◌, length, map, slice_index, Option, Some, None}
 use Rattle.std.specs.List.{flat_map}
 use Rattle.std.proofs.Common.{refl, sym, ap, subst, ◌∙◌, inl, inr, arith}
 use Rattle.std.proofs.Math.ListN.{get_or-eq_default}
@@ -18,7 +18,7 @@ use Rattle.np_basis.proofs.Cutting.{piece_is_unique}
 use Rattle.np_basis.proofs.Pivoting.{others_are_kept}
 use Rattle.np_basis.proofs.Reading.{in_flat, in_flat_of}
 use Rattle.quasi_tree.specs.Store.{Store}
-use Rattle.simplex_driver.specs.Store.{written, homes_of, emptied, filled, slot_at, home_at, Holds}
+use Rattle.simplex_driver.specs.Store.{lists_all, written, homes_of, emptied, filled, slot_at, home_at, Holds}
 use Rattle.simplex_driver.proofs.Tables.{Has, length_written, written_has, written_off}
 
 pub some_one : {A : Type 0} (x y : A) → Some x ≡ Some y → x ≡ y
@@ -32,9 +32,6 @@ cases x y = grind arith
 
 abbrev pub no_piece : Option Store
 no_piece = None
-
-abbrev pub lists_all : List Store → List PieceLists
-lists_all qs = map (λ (q : Store). q.lists) qs
 
 -- the least node is one of the nodes
 pub has_least : (p : PieceLists) → (v : ℕ) → IsIn v (nodes_in p) → IsIn (least_node p) (nodes_in p)

@@ -1,7 +1,7 @@
 -- The tables after a pivot are those of the state afterwards.
-use Rattle.std.specs.Prelude.{◌≡◌, ◌≢◌, ◌⊎◌, ℕ, ◌<◌, List, [], ◌∷◌, length, map, slice_index_or, slice_set}
+use Rattle.std.specs.Prelude.{◌≡◌, ◌≢◌, ℕ, ◌<◌, List, length, slice_index_or, slice_set}
 use Rattle.std.specs.List.{flat_map}
-use Rattle.std.proofs.Common.{refl, sym, ap, subst, ◌∙◌, inl, inr, arith}
+use Rattle.std.proofs.Common.{sym, ap, subst, ◌∙◌, inl, inr, arith}
 use Rattle.std.proofs.lemmas.List.{ext_get_or, get_or-set_same, get_or-set_other}
 use Rattle.std.proofs.Math.ListN.{length-set}
 use Rattle.gain_graphs.specs.Arcs.{IsIn, Touches}
@@ -10,7 +10,6 @@ use Rattle.gain_graphs.proofs.Search.{decide_touches}
 use native.Mathlib.Decide.{ℕ_discrete}
 use Rattle.np_frac.specs.Ratio.{Ratio, zero_ratio}
 use Rattle.np_model.specs.declared.arc.Ends.{Ends}
-use Rattle.np_model.specs.declared.log.Mark.{Mark}
 use Rattle.np_model.specs.declared.log.Mark.TheVariants as marked
 use Rattle.np_model.specs.declared.log.Entry.{Entry}
 use Rattle.np_model.specs.Network.Flows.{Network, at}
@@ -27,7 +26,7 @@ use Rattle.np_basis.proofs.Pivoting.{mark_leave, mark_enter, mark_other, not_tow
 use Rattle.np_basis.proofs.Reading.{in_flat, in_flat_of, stands_bound, touches_flat}
 use Rattle.np_basis.proofs.ToPieces.{pivot_replaces}
 use Rattle.simplex_driver.specs.Store.{written, potentials_of, flows_written}
-use Rattle.simplex_driver.proofs.Tables.{Has, length_written, written_has, written_off}
+use Rattle.simplex_driver.proofs.Tables.{Has, length_written, written_has}
 
 module _ (net : Network) (real : ℕ) (ground : HasRealArcs net real) (s : State) (st : IsState net s) (ps : List PieceLists) (pieces : ArePiecesOf net (values_of s) ps)
     (entry : Entry) (t : State) (pivot : IsPivot net real s entry t) (qs : List PieceLists) (after : ArePiecesAfter net ps t qs)

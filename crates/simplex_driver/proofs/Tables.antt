@@ -1,8 +1,9 @@
 -- Tables after some entries are written.
-use Rattle.std.specs.Prelude.{◌≡◌, ◌≢◌, ◌⊎◌, ℕ, ◌+◌, ◌<◌, List, [], ◌∷◌, ◌++◌, length, map}
+use Rattle.std.specs.Prelude.{◌≡◌, ◌⊎◌, ℕ, ◌+◌, ◌<◌, List, [], ◌∷◌, ◌++◌, length, map, Vec}
 use Rattle.std.proofs.Common.{refl, sym, ap, subst, ◌∙◌, inl, inr, arith, get_or, set, take, get_or-set_same, get_or-set_other}
 use Rattle.std.proofs.Math.ListN.{length-set}
-use Rattle.std.proofs.lemmas.List.{take_more, map-append}
+use Rattle.std.proofs.lemmas.List.{take_more, map-append, with_items_is}
+use Rattle.std.specs.Vec.{with_items}
 use Rattle.gain_graphs.specs.Arcs.{IsIn}
 use native.Mathlib.Decide.{ℕ_discrete}
 use Rattle.simplex_driver.specs.Store.{written}
@@ -54,7 +55,19 @@ in_map_of f y [] i = absurd i
 in_map_of f y (x ∷ xs) (inl e) = (x, inl refl, e)
 in_map_of f y (x ∷ xs) (inr i) = let r = in_map_of f y xs i in (r.0, inr r.1, r.2)
 
--- one more entry of a loop
+-- one more entry of a loop, where the entry is an item of plain data
+pub written_next : {A B : Type 0} (f : B → ℕ × A) (items : List B) (i : ℕ) (d : B) (start now : List A) → i < length items → now ≡ written (map f (take i items)) start
+    → set now (f (get_or items i d)).0 (f (get_or items i d)).1 ≡ written (map f (take (i + 1) items)) start
+written_next {A} {B} f items i d start now l so_far =
+    sym (ap (λ es. written (map f es) start) (take_more items i d l)
+    ∙ ap (λ es. written es start) (map-append f (take i items) (get_or items i d ∷ []))
+    ∙ written_append (map f (take i items)) (f (get_or items i d) ∷ []) start
+    ∙ ap (λ xs. set xs (f (get_or items i d)).0 (f (get_or items i d)).1) (sym so_far))
+
+-- one table written through a slice of it
+pub written_through : {A Z : Type 0} (v : Vec A Z) (es : List (ℕ × A)) (slice now : List A) → slice ≡ v.items → now ≡ written es slice → (with_items v now).items ≡ written es v.items
+written_through v es slice now e w = with_items_is v now (ap length w ∙ length_written es slice ∙ ap length e ∙ sym v.ok.0) ∙ w ∙ ap (written es) e
+
 pub written_more : {A B : Type 0} (f : B → ℕ × A) (items : List B) (i : ℕ) (x : B) (start now : List A) → i < length items → x ≡ get_or items i x → now ≡ written (map f (take i items)) start
     → set now (f x).0 (f x).1 ≡ written (map f (take (i + 1) items)) start
 written_more {A} {B} f items i x start now l e so_far =

@@ -1,6 +1,6 @@
 -- What the attempts with the listed arcs come to.
-use Rattle.std.specs.Prelude.{◌≡◌, ◌⊎◌, ℕ, ◌+◌, ◌<◌, List, [], ◌∷◌, length, Option, Some, None, slice_index_or}
-use Rattle.std.proofs.Common.{refl, sym, ap, subst, ◌∙◌, inl, inr, arith, suc}
+use Rattle.std.specs.Prelude.{◌≡◌, ℕ, ◌<◌, List, [], ◌∷◌, length, Option, Some, None, slice_index_or}
+use Rattle.std.proofs.Common.{sym, subst, inl, inr, arith, suc}
 use Rattle.gain_graphs.specs.Arcs.{IsIn}
 use Rattle.np_model.specs.declared.piece.Direction.{Direction}
 use Rattle.np_model.specs.declared.piece.Hands.{Hands}
@@ -9,11 +9,11 @@ use Rattle.np_model.specs.declared.piece.Prepared.TheVariants as prepared
 use Rattle.np_model.specs.declared.rows.Overflow.{Overflow}
 use Rattle.np_model.specs.declared.log.Entry.{Entry}
 use Rattle.np_model.specs.Network.Flows.{Network}
-use Rattle.np_model.specs.Basis.Graphs.{ratios, graph_of, ends_at}
+use Rattle.np_model.specs.Basis.Graphs.{graph_of, ends_at}
 use Rattle.np_model.specs.Basis.Attempts.{IsPivoted}
 use Rattle.np_model.specs.Basis.Moves.{IsEligible}
 use Rattle.np_model.specs.Basis.Needed.{AreNeededFor}
-use Rattle.np_model.specs.Basis.Pieces.{PieceLists, nodes_of}
+use Rattle.np_model.specs.Basis.Pieces.{nodes_of}
 use Rattle.np_model.specs.Basis.Sound.{values_in}
 use Rattle.np_model.specs.Basis.States.{State, values_of, IsState}
 use Rattle.np_basis.specs.Laws.{AgreeWith}

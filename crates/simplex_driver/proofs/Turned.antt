@@ -1,6 +1,6 @@
 -- The loop that turns the pieces, slot by slot.
-use Rattle.std.specs.Prelude.{◌≡◌, ◌≢◌, ◌⊎◌, ℕ, ◌+◌, ◌<◌, ◌≤◌, List, [], ◌∷◌, length, map, Option, Some, None, slice_index_or, slice_set}
-use Rattle.std.proofs.Common.{refl, sym, ap, subst, ◌∙◌, inl, inr, arith, zero, suc}
+use Rattle.std.specs.Prelude.{◌≡◌, ◌≢◌, ℕ, ◌+◌, ◌<◌, ◌≤◌, List, [], ◌∷◌, length, Option, Some, None, slice_index_or, slice_set}
+use Rattle.std.proofs.Common.{refl, sym, ap, subst, ◌∙◌, inl, arith, zero, suc}
 use Rattle.std.proofs.lemmas.List.{get_or-set_same, get_or-set_other}
 use Rattle.std.proofs.Math.ListN.{length-set}
 use native.Mathlib.Decide.{ℕ_discrete}
@@ -14,8 +14,8 @@ use Rattle.np_basis.proofs.Sound.{one_entry}
 use Rattle.quasi_tree.specs.Store.{Store}
 use Rattle.tree_potentials.specs.Answers.{HasPotentials}
 use Rattle.simplex_driver.specs.Store.{slot_at, written, potentials_of}
-use Rattle.simplex_driver.specs.Turns.{CanTurn, IsPieceTurned, IsSlotTurned, AreTurned}
-use Rattle.simplex_driver.proofs.Tables.{Has, length_written, written_has, written_off}
+use Rattle.simplex_driver.specs.Turns.{CanTurn, IsSlotTurned}
+use Rattle.simplex_driver.proofs.Tables.{Has, written_has, written_off}
 use Rattle.simplex_driver.proofs.Stepped.{no_piece, some_one, none_some}
 
 -- the slots before a place are turned, and the others are as before

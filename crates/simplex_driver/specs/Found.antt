@@ -1,5 +1,5 @@
 -- What the next step of a run is.
-use Rattle.std.specs.Prelude.{◌≡◌, ◌↔◌, ℕ, List, Bool, true, false, Err, ⊤}
+use Rattle.std.specs.Prelude.{◌≡◌, ◌≤◌, ◌↔◌, ℕ, List, length, Bool, true, false, Err, ⊤}
 use Rattle.std.specs.Result.{IsOk}
 use Rattle.gain_graphs.specs.Arcs.{IsIn}
 use Rattle.np_model.specs.declared.rows.Overflow.{Overflow}
@@ -37,9 +37,9 @@ module _ (net : Network) (real : ℕ) (s : Values) where
     pub past : AttemptOverflows net real s arc overflow
     pub all : (a : ℕ) → IsEligible net real s a → (other : Overflow) × AttemptOverflows net real s a other
 
-  -- the eligible arcs, and no others
+  -- the eligible arcs, and no others, in a list that is no longer than that of the real arcs
   abbrev pub AreListed : List ℕ → Type 0
-  AreListed list = AllPricesFit × ((a : ℕ) → IsIn a list ↔ IsEligible net real s a)
+  AreListed list = AllPricesFit × ((a : ℕ) → IsIn a list ↔ IsEligible net real s a) × (length list ≤ real)
 
   -- why there is no such list
   abbrev pub IsPriceCause : PriceRefusal → Type 0
@@ -48,7 +48,7 @@ module _ (net : Network) (real : ℕ) (s : Values) where
 
   -- the next step, each kind with its cause
   abbrev pub IsFound : Bool → Found → Type 0
-  IsFound spent (found.Pivot entry change) = (spent ≡ false) × CanPivot net real s entry (lists_in change)
+  IsFound spent (found.Pivot entry change list) = (spent ≡ false) × CanPivot net real s entry (lists_in change) × AreListed list
   IsFound spent found.NoneEnters = AllPricesFit × NoneEligible
   IsFound spent (found.Spent arc) = (spent ≡ true) × AllPricesFit × IsEligible net real s arc
   IsFound spent (found.Ray direction) = (spent ≡ false) × AllPricesFit × ((arc : ℕ) × AttemptFindsRay net real s arc direction)
@@ -58,7 +58,7 @@ module _ (net : Network) (real : ℕ) (s : Values) where
 
 -- a step without a pivot
 abbrev pub IsStop : Found → Type 0
-IsStop (found.Pivot entry change) = ⊥
+IsStop (found.Pivot entry change list) = ⊥
 IsStop found.NoneEnters = ⊤
 IsStop (found.Spent arc) = ⊤
 IsStop (found.Ray direction) = ⊤

@@ -1,5 +1,5 @@
 -- What the driver keeps from step to step.
-use Rattle.std.specs.Prelude.{◌≡◌, ℕ, ◌<◌, List, length, Bool, true, false, Option, Some, None, ⊤}
+use Rattle.std.specs.Prelude.{◌≡◌, ℕ, ◌<◌, List, Bool, true, false, Option, Some, None, ⊤}
 use Rattle.np_model.specs.declared.log.Entry.{Entry}
 use Rattle.np_frac.specs.Ratio.{Ratio}
 use Rattle.np_model.specs.declared.network.FullNet.{FullNet}
@@ -7,7 +7,7 @@ use Rattle.np_model.specs.declared.outcome.Outcome.{Outcome}
 use Rattle.np_model.specs.declared.outcome.Outcome.TheVariants as outcome
 use Rattle.np_model.specs.declared.phase.Phase.TheVariants.{One, Two}
 use Rattle.np_model.specs.declared.rows.Overflow.{Overflow}
-use Rattle.np_model.specs.Basis.Phases.{network_of, phase_net, real_arcs}
+use Rattle.np_model.specs.Basis.Phases.{network_of, phase_net}
 use Rattle.np_model.specs.Basis.Pieces.{PieceLists}
 use Rattle.np_model.specs.Basis.Starts.{artificial_ends}
 use Rattle.np_model.specs.Basis.States.{State, values_of, IsPieceOf, IsState}

@@ -1,5 +1,5 @@
 -- What the driver holds: the pieces of a state, each in the slot of its least node, and the state as tables by number. (This project's own.)
-use Rattle.std.specs.Prelude.{◌≡◌, ◌==◌, if◌then◌else◌, ℕ, ◌<◌, List, [], ◌∷◌, length, map, Option, Some, None, slice_index_or, slice_set}
+use Rattle.std.specs.Prelude.{◌≡◌, ℕ, ◌<◌, List, [], ◌∷◌, length, map, Option, Some, None, slice_index_or, slice_set}
 use Rattle.std.specs.List.{All}
 use Rattle.gain_graphs.specs.Arcs.{IsIn}
 use Rattle.np_frac.specs.Ratio.{Ratio}
@@ -56,6 +56,10 @@ flows_written p = map (λ b. (b.0, b.2)) p.basics
 -- the slots of the pieces that an arc needs are emptied
 abbrev pub emptied : List ℕ → List (ℕ × Option Store)
 emptied homes = map (λ home. (home, None)) homes
+
+-- the lists of pieces
+abbrev pub lists_all : List Store → List PieceLists
+lists_all pieces = map (λ p. p.lists) pieces
 
 -- the one piece or the two
 abbrev pub stores_in : Hands Store → List Store

@@ -4,6 +4,7 @@ ghost use Rattle.std.specs.Prelude.{◌≡◌, ◌≤◌, ◌<◌, ◌⊎◌, le
 ghost use Rattle.np_model.specs.Basis.Phases.{network_of, phase_net, real_arcs};
 ghost use Rattle.np_runs.specs.Ended.{IsEnded};
 ghost use Rattle.np_runs.specs.Runs.{stage_of};
+ghost use Rattle.simplex_driver.specs.Budgets.{IsCrew};
 ghost use Rattle.simplex_driver.specs.Runs.{IsGood, Goes, IsDue};
 
 use crate::forest::Forest;
@@ -11,7 +12,7 @@ use crate::stepping::Found;
 use crate::telling::{log_of, tell};
 use crate::turning::carries;
 use np_frac::Memory;
-use np_model::{Entry, FullNet, Outcome, Overflow, Phase};
+use np_model::{Entry, FullNet, Gate, Outcome, Overflow, Phase};
 use std::alloc::Global;
 use std::thread::Threads;
 use tree_potentials::PotentialRefusal;
@@ -73,16 +74,19 @@ pub(crate) fn after(enter: u32, real: u32) -> u32
     if enter + 1 < real { enter + 1 } else { 0 }
 }
 
-/// Drives the pivots of a network from its start until they end.
-pub(crate) fn run(
+/// Drives the pivots of a network from its start until they end: one pivot and one round at each step.
+pub(crate) fn run<G: Gate>(
     rt: &(impl Threads + Sync),
     alloc: Global,
     full: &FullNet,
     start: Forest,
+    workers: u32,
     budget: u32,
+    gate: &G,
 ) -> Result<Outcome, Memory>
     requires good { IsGood full.now }
     requires start { Goes full.now None [] start }
+    requires crew { IsCrew workers }
     requires few { budget ≤ 1000000 }
     ensures { IfOk result (IsEnded (network_of full.now.net) budget) }
 {
@@ -103,10 +107,18 @@ pub(crate) fn run(
         let phase = phase_of(turned);
         let spent = entries.len() == budget as usize;
         match forest.find(rt, alloc, full, phase, spent, from) {
-            Found::Pivot { entry, change } => {
+            Found::Pivot {
+                entry,
+                change,
+                list,
+            } => {
                 forest.pivot(full, phase, entry, change);
                 from = after(entry.enter, real);
                 entries.push(entry)?;
+                let left = budget - entries.len() as u32;
+                let listed = list.items.as_slice();
+                let made = forest.round(rt, alloc, full, phase, listed, workers, left, gate)?;
+                entries.extend_from_slice(made.as_slice())?;
             }
             Found::Memory => return Err(Memory),
             found => return tell(alloc, full, forest, turned, entries, budget, spent, found),

@@ -100,7 +100,7 @@ impl Forest {
     }
 
     // Writes a piece into the tables, and puts it into its slot.
-    fn house(&mut self, piece: Quasi)
+    pub(crate) fn house(&mut self, piece: Quasi)
         requires { LiesWithin self.old piece.lists }
         ensures slots { self.new.slots.items ≡ slice_set self.old.slots.items (least_node piece.lists) (Some piece) }
         ensures homes { self.new.homes.items ≡ written (homes_of piece.lists) self.old.homes.items }

@@ -1,4 +1,4 @@
-//! The driver of the generalised network simplex method: from the start of stage one by pivots to one of five outcomes.
+//! The driver of the generalised network simplex method: from the start of stage one by pivots and rounds of workers to one of five outcomes.
 #![tactic(auto)]
 
 mod attempt;
@@ -7,6 +7,7 @@ mod forest;
 mod opening;
 mod picking;
 mod ray;
+mod rounds;
 mod solving;
 mod stepping;
 mod telling;
@@ -14,6 +15,8 @@ mod turning;
 
 pub use solving::{NetSimplex, solve};
 
+#[cfg(test)]
+mod passes;
 #[cfg(test)]
 mod tests;
 #[cfg(test)]

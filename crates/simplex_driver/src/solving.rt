@@ -29,7 +29,10 @@ pub(crate) fn read_values(values: &[Frac])
 
 /// Solves a network by pivots, at most as many as the budget: from the artificial start in stage one, which seeks a feasible flow, and on in
 /// stage two, which seeks one of least cost. At each step the arcs that may enter are listed by their prices, from a cursor on that goes
-/// round, and the first one enters whose pivot can be made. The outcome is what that run has ended in:
+/// round, and the first one enters whose pivot can be made. Then comes a round: the workers, 1 to 16 of them, try the arcs of the same list
+/// on all pieces, each in a thread of its own where one can be made. Each worker makes at most 64 pivots in a round, and at most an equal share
+/// of what is left of the budget; where that share is 0, there is no round. The log has the pivot of the step and then those of its round, in
+/// the order in which they were made. The outcome is what that run has ended in:
 ///
 /// - [`Outcome::Optimal`] where no arc may enter in stage two, with flows of least cost and the potentials that show them.
 /// - [`Outcome::Infeasible`] where none may in stage one while an artificial arc carries something, with potentials that certify that no flow
@@ -39,22 +42,23 @@ pub(crate) fn read_values(values: &[Frac])
 /// - [`Outcome::Overflow`] where an operation does not fit: of the start, of the price of an open arc, of each attempt with an arc that may
 ///   enter, or of the potentials of stage two.
 ///
-/// [`Memory`] where there is not enough of it. The call returns whatever comes: each step that does not end the run adds a pivot. Time for
-/// a pivot is in proportion to the arcs, which are priced, and to the pieces of the pivot.
+/// [`Memory`] where there is not enough of it, also for the work of some worker. The call returns whatever comes: each step that does not end
+/// the run adds a pivot. Time for a step is in proportion to the arcs, which are priced, to the pieces of its pivots, and once to all pieces.
 ///
-/// Workers and gate have no effect yet: one thread makes all pivots, and the same run each time.
+/// With one worker the run is the same each time. With several it depends on how their threads take turns, and so does which of several
+/// optimal plans is found. Each worker stands at the gate before it takes pieces and while it holds them: a test may keep it there.
 ///
 /// The method is the generalised network simplex method of Ahuja, Magnanti and Orlin, Network Flows, chapter 15; the order in which arcs are
-/// tried and overflows are told is this project's own.
+/// tried and overflows are told, and the rounds, are this project's own.
 pub fn solve<G: Gate>(
     rt: &(impl Threads + Sync),
     alloc: Global,
     net: &Net,
-    _workers: u32,
+    workers: u32,
     budget: u32,
-    _gate: &G,
+    gate: &G,
 ) -> Result<Outcome, Memory>
-    requires workers { IsCrew _workers }
+    requires crew { IsCrew workers }
     requires budget { IsBudget budget }
     ensures { IfOk result (IsEnded (network_of net.now) budget) }
 {
@@ -63,7 +67,7 @@ pub fn solve<G: Gate>(
     match start(alloc, net) {
         Ok(start) => {
             let forest = Forest::opening(alloc, &start)?;
-            run(rt, alloc, &start.full, forest, budget)
+            run(rt, alloc, &start.full, forest, workers, budget, gate)
         }
         Err(StartRefusal::Past(overflow)) => Ok(Outcome::Overflow {
             overflow,

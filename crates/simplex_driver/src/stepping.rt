@@ -18,8 +18,12 @@ use std::thread::Threads;
 /// What the next step of a run is.
 #[derive(Debug, Drop)]
 pub(crate) enum Found {
-    /// The pivot of this entry can be made.
-    Pivot { entry: Entry, change: Change },
+    /// The pivot of this entry can be made, of the first listed arc for which one can.
+    Pivot {
+        entry: Entry,
+        change: Change,
+        list: Nums,
+    },
     /// No arc may enter.
     NoneEnters,
     /// The budget is spent, and this arc may enter.
@@ -90,7 +94,11 @@ impl Forest {
             return Found::Spent(list.items[0]);
         }
         match self.pick(alloc, full, phase, list.items.as_slice()) {
-            Picked::Ready { entry, change } => Found::Pivot { entry, change },
+            Picked::Ready { entry, change } => Found::Pivot {
+                entry,
+                change,
+                list,
+            },
             Picked::Ray(direction) => Found::Ray(direction),
             Picked::Past(overflow) => Found::Attempts(overflow),
             Picked::Memory => Found::Memory,

@@ -5,7 +5,7 @@ ghost use Rattle.std.specs.List.{All};
 ghost use Rattle.np_frac.specs.Ratio.{zero_ratio};
 ghost use Rattle.np_model.specs.Network.Arcs.{AreNodes, IsGaining, IsAtMost};
 ghost use Rattle.np_model.specs.Network.Nets.{IsSoundArc};
-ghost use Rattle.simplex_driver.specs.Budgets.{IsBudget};
+ghost use Rattle.simplex_driver.specs.Budgets.{IsCrew, IsBudget};
 
 use crate::{NetSimplex, solve};
 use np_frac::{Frac, Memory, Op, Past};
@@ -86,6 +86,22 @@ pub(crate) fn network(alloc: Global, supply: &[Frac], arcs: &[NetArc]) -> Result
     })
 }
 
+fn solved_by(
+    rt: &(impl Threads + Sync),
+    alloc: Global,
+    net: &Net,
+    workers: u32,
+    budget: u32,
+) -> Result<Outcome, Fail>
+    requires crew { IsCrew workers }
+    requires budget { IsBudget budget }
+{
+    match solve(rt, alloc, net, workers, budget, &OpenGate) {
+        Ok(outcome) => Ok(outcome),
+        Err(_) => Err(Fail::from("no memory")),
+    }
+}
+
 fn solved(
     rt: &(impl Threads + Sync),
     alloc: Global,
@@ -94,14 +110,11 @@ fn solved(
 ) -> Result<Outcome, Fail>
     requires { IsBudget budget }
 {
-    match solve(rt, alloc, net, 1, budget, &OpenGate) {
-        Ok(outcome) => Ok(outcome),
-        Err(_) => Err(Fail::from("no memory")),
-    }
+    solved_by(rt, alloc, net, 1, budget)
 }
 
 // A pivot after which the arc that leaves stands at its lower bound.
-fn entry(enter: u32, leave: u32) -> Entry {
+pub(crate) fn entry(enter: u32, leave: u32) -> Entry {
     Entry {
         enter,
         leave,
@@ -315,6 +328,40 @@ fn no_start(rt: HostRuntime) -> Result<(), Fail> {
         }
         _ => Err(Fail::from("another outcome")),
     }
+}
+
+// A chain of four nodes that each are to be drained at their own drain, or at the first one for less. There is one plan of least cost, whoever
+// makes the pivots.
+#[test]
+fn several_workers(rt: HostRuntime) -> Result<(), Fail> {
+    let (none, one) = (Frac::whole(0), Frac::whole(1));
+    let (two, three) = (Frac::whole(2), Frac::whole(3));
+    let arcs = [
+        arc(4, Ends::Drain(0), 0),
+        arc(4, Ends::Drain(1), 9),
+        arc(4, Ends::Drain(2), 9),
+        arc(4, Ends::Drain(3), 9),
+        arc(4, link(4, 1, 0, one), 1),
+        arc(4, link(4, 2, 1, one), 1),
+        arc(4, link(4, 3, 2, one), 1),
+    ];
+    let net = network(rt.alloc(), &[one, one, one, one], &arcs)?;
+    let flows = [Frac::whole(4), none, none, none, three, two, one];
+    let potentials = [none, one, two, three];
+    for others in 0..16 {
+        match solved_by(&rt, rt.alloc(), &net, others + 1, 1000)? {
+            Outcome::Optimal {
+                flows: found,
+                potentials: prices,
+                ..
+            } => {
+                assert!(rt; found.items.as_slice() == flows.as_slice());
+                assert!(rt; prices.items.as_slice() == potentials.as_slice());
+            }
+            _ => return Err(Fail::from("another outcome")),
+        }
+    }
+    Ok(())
 }
 
 // The solver with its own budget gives what the call gives.

@@ -1,4 +1,5 @@
-//! A hundred drawn networks, walked pivot by pivot: each state is tested by plain code against what a state of its stage is.
+//! A hundred drawn networks, walked step by step: each state after a pivot, and after a round of three workers, is tested by plain code
+//! against what a state of its stage is.
 
 ghost use Rattle.std.specs.Prelude.{◌≡◌, ◌≤◌, ◌<◌, ◌⊎◌, length, None, []};
 ghost use Rattle.std.specs.List.{All};
@@ -13,7 +14,7 @@ use crate::stepping::Found;
 use crate::tests::{arc, link, network, over};
 use basis_start::start;
 use np_frac::{Frac, Memory, Past};
-use np_model::{Ends, FullNet, Mark, Net, NetArc, Phase, Piece, Upper};
+use np_model::{Ends, FullNet, Mark, Net, NetArc, OpenGate, Phase, Piece, Upper};
 use np_runs::laws::started;
 use std::alloc::Global;
 use std::test::Fail;
@@ -273,10 +274,21 @@ fn walk(
         }
         let spent = entries.len() == budget as usize;
         match forest.find(rt, alloc, full, phase, spent, from) {
-            Found::Pivot { entry, change } => {
+            Found::Pivot {
+                entry,
+                change,
+                list,
+            } => {
                 forest.pivot(full, phase, entry, change);
+                if state_holds(full, phase, &forest) != Ok(true) {
+                    return Err(Fail::from("no state after a pivot"));
+                }
                 from = after(entry.enter, real);
                 entries.push(entry)?;
+                let left = budget - entries.len() as u32;
+                let listed = list.items.as_slice();
+                let made = forest.round(rt, alloc, full, phase, listed, 3, left, &OpenGate)?;
+                entries.extend_from_slice(made.as_slice())?;
             }
             Found::Memory => return Err(Fail::from("no memory")),
             _ => return Ok(entries.len()),

@@ -1,7 +1,7 @@
-use Rattle.std.proofs.Common.{rules, ◌≡◌, subst}
+use Rattle.std.proofs.Common.{rules, subst}
 use Rattle.np_model.specs.declared.phase.Phase.TheVariants.{Two}
 use Rattle.np_model.specs.Basis.Phases.{phase_net, real_arcs}
-use Rattle.simplex_driver.specs.Turns.{CarriesFrom, IsTurnCause}
+use Rattle.simplex_driver.specs.Turns.{IsTurnCause}
 use Rattle.simplex_driver.proofs.Driving as driving
 use Rattle.simplex_driver.proofs.driver.turn_if_due.Goals as goal
 

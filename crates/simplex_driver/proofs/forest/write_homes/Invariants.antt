@@ -1,5 +1,4 @@
 use Rattle.std.proofs.Common.{◌≡◌, map, take}
-use Rattle.np_model.specs.Basis.Pieces.{least_node}
 use Rattle.simplex_driver.specs.Store.{written}
 use Rattle.simplex_driver.proofs.forest.write_homes.Given as goal
 

@@ -1,6 +1,5 @@
 use Rattle.std.proofs.Common.{ℕ, arith}
 use Rattle.np_frac.specs.Ratio.{Ratio}
-use Rattle.np_model.specs.declared.arc.Ends.{Ends}
 use Rattle.simplex_driver.proofs.Tables.{written_more}
 use Rattle.simplex_driver.proofs.forest.write_potentials.Goals as goal
 

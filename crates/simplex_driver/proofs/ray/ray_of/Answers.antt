@@ -1,4 +1,4 @@
-use Rattle.std.proofs.Common.{◌≡◌, ◌∙◌, sym, ap, length}
+use Rattle.std.proofs.Common.{◌∙◌, sym, ap, length}
 use Rattle.std.proofs.lemmas.List.{with_items_is}
 use Rattle.simplex_driver.specs.Store.{written}
 use Rattle.simplex_driver.proofs.Amounts.{ray_is, entries_of}

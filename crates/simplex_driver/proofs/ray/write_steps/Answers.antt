@@ -1,4 +1,4 @@
-use Rattle.std.proofs.Common.{rules, ◌≡◌, ◌∙◌, ℕ, sym, ap, length, arith}
+use Rattle.std.proofs.Common.{◌∙◌, ℕ, sym}
 use Rattle.np_frac.specs.Ratio.{Ratio}
 use Rattle.simplex_driver.proofs.Amounts.{set_beyond}
 use Rattle.simplex_driver.proofs.Tables.{written_more}

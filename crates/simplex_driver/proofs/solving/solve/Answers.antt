@@ -1,4 +1,4 @@
-use Rattle.std.proofs.Common.{rules, ◌≡◌, ◌<◌, ℕ, subst}
+use Rattle.std.proofs.Common.{rules}
 use Rattle.np_model.specs.Basis.Phases.{network_of}
 use Rattle.simplex_driver.proofs.Driving as driving
 use Rattle.simplex_driver.proofs.solving.solve.Goals as goal

@@ -1,4 +1,4 @@
-use Rattle.std.proofs.Common.{rules, ◌≡◌, sym, ap, subst, ◌∙◌}
+use Rattle.std.proofs.Common.{subst}
 use Rattle.np_model.specs.Basis.Phases.{phase_net, real_arcs}
 use Rattle.np_model.specs.Basis.States.{values_of}
 use Rattle.np_runs.specs.Runs.{stage_of}

@@ -1,9 +1,8 @@
-use Rattle.std.proofs.Common.{rules, ◌≡◌, ◌<◌, ℕ, ap, sym, ◌∙◌, length, arith}
+use Rattle.std.proofs.Common.{ap, sym, ◌∙◌, length, arith}
 use Rattle.std.specs.Prelude.{Some, slice_index_or, slice_set}
-use Rattle.np_frac.specs.Ratio.{Ratio}
 use Rattle.np_model.specs.Basis.Phases.{phase_net}
 use Rattle.np_model.specs.declared.phase.Phase.TheVariants.{Two}
-use Rattle.simplex_driver.specs.Store.{slot_at, potentials_of}
+use Rattle.simplex_driver.specs.Store.{potentials_of}
 use Rattle.simplex_driver.proofs.Attempts.{place_in}
 use Rattle.simplex_driver.proofs.Tables.{length_written}
 use Rattle.simplex_driver.proofs.Turned as turned

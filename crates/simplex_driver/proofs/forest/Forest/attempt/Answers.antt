@@ -1,6 +1,5 @@
-use Rattle.std.proofs.Common.{rules, ◌≡◌, ◌<◌, ℕ, length, ap, sym, subst, ◌∙◌, arith, ◌∷◌, []}
-use Rattle.np_model.specs.Network.Arcs.{AreNodes}
-use Rattle.np_model.specs.Basis.Phases.{phase_net, real_arcs, all_arcs}
+use Rattle.std.proofs.Common.{◌<◌, ℕ, sym, subst, ◌∷◌, []}
+use Rattle.np_model.specs.Basis.Phases.{phase_net, real_arcs}
 use Rattle.simplex_driver.specs.Store.{HaveHomes}
 use Rattle.simplex_driver.proofs.Attempts as attempts
 use Rattle.simplex_driver.proofs.forest.Forest.attempt.Goals as goal

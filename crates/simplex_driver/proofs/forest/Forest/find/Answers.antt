@@ -1,4 +1,4 @@
-use Rattle.std.proofs.Common.{rules, ◌≡◌, subst}
+use Rattle.std.proofs.Common.{rules, subst}
 use Rattle.gain_graphs.specs.Arcs.{IsIn}
 use Rattle.np_model.specs.Basis.Phases.{phase_net, real_arcs}
 use Rattle.np_model.specs.Basis.States.{values_of}

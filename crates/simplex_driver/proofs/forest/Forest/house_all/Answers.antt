@@ -1,9 +1,8 @@
-use Rattle.std.specs.Prelude.{◌≡◌, length, slice_set}
+use Rattle.std.specs.Prelude.{length}
 use Rattle.std.specs.List.{flat_map}
 use Rattle.std.proofs.Common.{ap, sym, ◌∙◌}
 use Rattle.std.proofs.Math.ListN.{length-set}
 use Rattle.np_model.specs.Basis.Needed.{lists_held}
-use Rattle.np_model.specs.Basis.Pieces.{least_node}
 use Rattle.quasi_tree.specs.Store.{Store}
 use Rattle.simplex_driver.specs.Store.{written, homes_of, potentials_of, flows_written, LiesWithin}
 use Rattle.simplex_driver.proofs.Tables.{length_written}

@@ -1,8 +1,6 @@
-use Rattle.std.proofs.Common.{rules, ◌≡◌, ◌≤◌, ℕ, length, arith}
-use Rattle.std.specs.Prelude.{List, take}
+use Rattle.std.proofs.Common.{rules}
 use Rattle.np_model.specs.Basis.Phases.{phase_net, real_arcs}
 use Rattle.simplex_driver.specs.Store.{state_of}
-use Rattle.simplex_driver.proofs.Attempts as attempts
 use Rattle.simplex_driver.proofs.Pricing.{listed_by, part_is}
 use Rattle.simplex_driver.proofs.forest.Forest.listed.Goals as goal
 

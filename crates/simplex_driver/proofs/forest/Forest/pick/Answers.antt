@@ -1,8 +1,7 @@
-use Rattle.std.proofs.Common.{◌≡◌, ◌<◌, ℕ, length, sym, subst, ◌∙◌, arith, below_more}
+use Rattle.std.proofs.Common.{sym, subst, arith, below_more}
 use Rattle.std.specs.Prelude.{slice_index_or}
-use Rattle.gain_graphs.specs.Arcs.{IsIn}
 use Rattle.np_model.specs.declared.rows.Overflow.{Overflow}
-use Rattle.np_model.specs.Basis.Phases.{phase_net, real_arcs, all_arcs}
+use Rattle.np_model.specs.Basis.Phases.{phase_net, real_arcs}
 use Rattle.np_model.specs.Basis.States.{values_of}
 use Rattle.np_runs.specs.Ended.{AttemptOverflows}
 use Rattle.simplex_driver.specs.Store.{state_of}

@@ -1,16 +1,9 @@
-use Rattle.std.proofs.Common.{◌≡◌, ◌<◌, ℕ, length, ap, sym, subst, ◌∙◌, arith}
-use Rattle.std.specs.List.{All, flat_map}
-use Rattle.np_model.specs.declared.piece.Hands.{Hands}
-use Rattle.np_model.specs.Basis.Graphs.{arc_at, ends_at}
+use Rattle.std.proofs.Common.{◌<◌, ℕ, length, ap, subst, ◌∙◌, arith}
+use Rattle.std.specs.List.{flat_map}
 use Rattle.np_model.specs.Basis.Needed.{lists_held}
-use Rattle.np_model.specs.Basis.Phases.{phase_net, real_arcs, all_arcs}
-use Rattle.np_model.specs.Basis.Pivots.{IsPivot}
-use Rattle.np_model.specs.Basis.Sound.{bound_at}
-use Rattle.np_model.specs.Basis.States.{values_of, IsState}
-use Rattle.piece_lists.specs.Parts.{lists_in}
+use Rattle.np_model.specs.Basis.Phases.{phase_net, real_arcs}
 use Rattle.quasi_tree.specs.Store.{Store}
-use Rattle.simplex_driver.specs.declared.forest.Forest.{Forest}
-use Rattle.simplex_driver.specs.Store.{state_of, IsKept, LiesWithin, written, emptied, filled, homes_needed, homes_of, potentials_of, flows_written, stores_in}
+use Rattle.simplex_driver.specs.Store.{emptied, homes_needed, homes_of, potentials_of, flows_written}
 use Rattle.simplex_driver.proofs.Attempts as attempts
 use Rattle.simplex_driver.proofs.Tables.{length_written}
 use Rattle.simplex_driver.proofs.forest.Forest.pivot.Goals as goal

@@ -1,10 +1,10 @@
-use Rattle.std.proofs.Common.{◌≡◌, refl, sym, ap, subst, ◌∙◌, length}
+use Rattle.std.proofs.Common.{refl, sym, ap, subst, ◌∙◌, length}
 use Rattle.std.proofs.lemmas.List.{with_items_is}
 use Rattle.std.specs.Vec.{with_items}
 use Rattle.np_model.specs.declared.phase.Phase.TheVariants.{One, Two}
 use Rattle.np_model.specs.Basis.Phases.{network_of, phase_net}
 use Rattle.np_basis.proofs.Fulls.{full_net_is_sound}
-use Rattle.simplex_driver.specs.Turns.{CanTurn, IsTurnCause}
+use Rattle.simplex_driver.specs.Turns.{CanTurn}
 use Rattle.simplex_driver.proofs.SecondStage as second
 use Rattle.simplex_driver.proofs.forest.Forest.turn.Goals as goal
 
