@@ -3,7 +3,9 @@ pub mod WordFacts
 pub mod TextFacts
 pub mod AnswerFacts
 pub mod RunFacts
+pub mod DemoRuns
 pub mod SolveFacts
+pub mod DemoFacts
 pub mod NetFacts
 pub mod InputFacts
 pub mod OneReading

@@ -21,7 +21,7 @@ use Rattle.netplan_top.specs.Commands.Faults.{IsFaulty}
 use Rattle.netplan_top.specs.Commands.Answers.{AnswerOf, longest}
 use Rattle.netplan_top.specs.Run.{IsRun, IsWholeInput, IsTooLong, Gives, GivesTooLong, GivesPlan, MeetsNoFault, IsCut, IsSomeText, IsAllowed, Streams}
 use Rattle.netplan_top.specs.Steps.Endings.{IsPrinted, Ending}
-use Rattle.netplan_top.proofs.WordFacts.{apart, apart_check, apart_expand, same_job}
+use Rattle.netplan_top.proofs.WordFacts.{apart, apart_check, apart_expand, same_job, apart_demo}
 
 -- ---- how a run ends
 
@@ -129,7 +129,7 @@ module _ (command : Command) (io : Streams) (status : ℕ) where
       → IsCut (IsAllowed words io) io
   cut words named ends e =
       let it = sink_failed ends e in
-      record { text = it.text; is_allowed = inr (command, named, it.is_allowed); rose = it.rose; part = it.part; unsure = it.unsure }
+      record { text = it.text; is_allowed = inr (inl (command, named, it.is_allowed)); rose = it.rose; part = it.part; unsure = it.unsure }
 
 -- ---- the whole input
 
@@ -272,23 +272,25 @@ not_expanded words Expand io status named ends expand e = gives_fault Expand io 
 -- of words that name a command
 pub command_runs : (words : List (String Global)) (command : Command) (io : Streams) (status : ℕ) → AskFor words command → Ending command io status → IsRun words io status
 command_runs words command io status named ends = record {
-  no_command = λ none. absurd (none (command, named));
+  no_command = λ none. absurd (none (inl (command, named)));
   usage = λ e. absurd (no_usage command io status ends e);
   optimal = optimal words command io status named ends;
   infeasible = λ e. plan_of words command io status named ends 1 IsInfeasible e (omega arith) (omega arith) (λ job input text answer. answer.infeasible e);
   unbounded = λ e. plan_of words command io status named ends 2 IsUnbounded e (omega arith) (omega arith) (λ job input text answer. answer.unbounded e);
-  out_of_budget = λ e. plan_of words command io status named ends 3 IsOutOfBudget e (omega arith) (omega arith) (λ job input text answer. answer.out_of_budget e);
+  out_of_budget = λ e. inl (plan_of words command io status named ends 3 IsOutOfBudget e (omega arith) (omega arith) (λ job input text answer. answer.out_of_budget e));
   not_solved = not_solved words command io status named ends;
   completes = completes words command io status named ends;
   accepted = accepted words command io status named ends;
   rejected = rejected words command io status named ends;
   refused = refused words command io status named ends;
-  overflowed = overflowed words command io status named ends;
+  overflowed = λ e. elim (overflowed words command io status named ends e) [ inl walk ↦ inl walk | inr plan ↦ inr (inl plan) ];
   expanded = expanded words command io status named ends;
   not_expanded = not_expanded words command io status named ends;
+  summed_up = λ n demo e. absurd (apart_demo words n command demo named);
+  demo_ends = λ n demo. absurd (apart_demo words n command demo named);
   unread_rest = source_failed command io status ends;
   cut = cut command io status words named ends;
-  no_memory = λ e. ((command, named), out_of_memory command io status ends e);
+  no_memory = λ e. (inl (command, named), out_of_memory command io status ends e);
   known = known command io status ends;
 }
 
@@ -300,18 +302,20 @@ usage_runs words io status none printed =
     record {
       no_command = λ _. ended;
       usage = λ e. (none, elim printed [ inl all ↦ all.1 | inr part ↦ absurd (let is = part.0 in omega arith) ]);
-      optimal = λ job named e. absurd (none (Solve job, named));
+      optimal = λ job named e. absurd (none (inl (Solve job, named)));
       infeasible = λ e. absurd (other 1 (λ h. omega arith) (λ h. omega arith) e);
       unbounded = λ e. absurd (other 2 (λ h. omega arith) (λ h. omega arith) e);
       out_of_budget = λ e. absurd (other 3 (λ h. omega arith) (λ h. omega arith) e);
-      not_solved = λ job named e. absurd (none (Solve job, named));
-      completes = λ job named able. absurd (none (Solve job, named));
-      accepted = λ named e. absurd (none (Check, named));
+      not_solved = λ job named e. absurd (none (inl (Solve job, named)));
+      completes = λ job named able. absurd (none (inl (Solve job, named)));
+      accepted = λ named e. absurd (none (inl (Check, named)));
       rejected = λ e. absurd (other 10 (λ h. omega arith) (λ h. omega arith) e);
-      refused = λ named e. absurd (none (Check, named));
+      refused = λ named e. absurd (none (inl (Check, named)));
       overflowed = λ e. absurd (other 4 (λ h. omega arith) (λ h. omega arith) e);
-      expanded = λ named e. absurd (none (Expand, named));
-      not_expanded = λ named e. absurd (none (Expand, named));
+      expanded = λ named e. absurd (none (inl (Expand, named)));
+      not_expanded = λ named e. absurd (none (inl (Expand, named)));
+      summed_up = λ n demo e. absurd (none (inr (n, demo)));
+      demo_ends = λ n demo. absurd (none (inr (n, demo)));
       unread_rest = λ e. absurd (other 7 (λ h. omega arith) (λ h. omega arith) e);
       cut = λ e. elim printed [
         | inl all ↦ absurd (let is = all.0 in omega arith)

@@ -3,4 +3,5 @@ pub mod Faults
 pub mod Check
 pub mod Expand
 pub mod Solve
+pub mod Demo
 pub mod Answers

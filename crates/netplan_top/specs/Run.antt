@@ -11,12 +11,13 @@ use Rattle.net_csv.specs.declared.refused.Tail.TheVariants as tail
 use Rattle.netplan_top.specs.declared.words.Job.{Job}
 use Rattle.netplan_top.specs.declared.words.Command.{Command}
 use Rattle.netplan_top.specs.declared.words.Command.TheVariants.{Check, Expand, Solve}
-use Rattle.netplan_top.specs.Words.{AskFor, IsCommand, usage_text}
+use Rattle.netplan_top.specs.Words.{AskFor, AskForDemo, IsCommand, usage_text}
 use Rattle.netplan_top.specs.Texts.Frame.{refused_text}
 use Rattle.netplan_top.specs.Commands.Faults.{IsFaulty}
 use Rattle.netplan_top.specs.Commands.Check.{Says, Accepts, Rejects, Overflows, IsPlanFaulty}
 use Rattle.netplan_top.specs.Commands.Expand.{Expands, IsNetwork}
 use Rattle.netplan_top.specs.Commands.Solve.{Solves, IsOptimal, IsInfeasible, IsUnbounded, IsOutOfBudget, IsOverflow}
+use Rattle.netplan_top.specs.Commands.Demo.{SumsUp, TellsPlan, IsDemoAnswer}
 use Rattle.netplan_top.specs.Commands.Answers.{longest, AnswerOf}
 
 -- what the source and the sink had before a run (with no prime) and after it: the bytes that are left to read and those that were
@@ -71,6 +72,16 @@ pub record GivesTooLong (io : Streams) : Type 0 where
 abbrev pub GivesPlan : (Job → Scheme → Plan → Type 0) → List (String Global) → Streams → Type 0
 GivesPlan claim words io = (job : Job) × AskFor words (Solve job) × Gives (Solves claim job) io
 
+-- all of a text of which this is so was written
+pub record Writes (claim : List ℕ → Type 0) (io : Streams) : Type 0 where
+  pub text : List ℕ
+  pub says : claim text
+  pub wrote : Wrote io.written io.written' text
+
+-- the words ask for the demo of a number, and all of the text that says this of it was written
+abbrev pub GivesDemo : (ℕ → List ℕ → Type 0) → List (String Global) → Streams → Type 0
+GivesDemo claim words io = (n : ℕ) × AskForDemo words n × Writes (claim n) io
+
 -- the source told its bytes, which are the network text of a scheme and not too long, and no stream failed
 pub record MeetsNoFault (io : Streams) : Type 0 where
   pub input : List ℕ
@@ -94,9 +105,11 @@ pub record IsCut (allowed : List ℕ → Type 0) (io : Streams) : Type 0 where
   pub part : WrotePart io.written io.written' text
   pub unsure : io.sure < length text
 
--- a text that the words allow, and for a command what was read: the usage text, or one that some status of the command allows
+-- a text that the words allow, and for a command what was read: the usage text, or one that some status of the command or of the demo allows
 abbrev pub IsAllowed : List (String Global) → Streams → List ℕ → Type 0
-IsAllowed words io text = ((¬ (IsCommand words)) × (text ≡ usage_text)) ⊎ ((command : Command) × AskFor words command × IsSomeText command io text)
+IsAllowed words io text =
+    ((¬ (IsCommand words)) × (text ≡ usage_text)) ⊎ ((command : Command) × AskFor words command × IsSomeText command io text)
+    ⊎ ((n : ℕ) × AskForDemo words n × ((status : ℕ) × IsDemoAnswer n status text))
 
 -- ---- the statuses
 
@@ -109,7 +122,7 @@ pub record IsRun (words : List (String Global)) (io : Streams) (status : ℕ) : 
   pub optimal : (job : Job) → AskFor words (Solve job) → status ≡ 0 → Gives (Solves IsOptimal job) io
   pub infeasible : status ≡ 1 → GivesPlan IsInfeasible words io
   pub unbounded : status ≡ 2 → GivesPlan IsUnbounded words io
-  pub out_of_budget : status ≡ 3 → GivesPlan IsOutOfBudget words io
+  pub out_of_budget : status ≡ 3 → GivesPlan IsOutOfBudget words io ⊎ GivesDemo (TellsPlan IsOutOfBudget) words io
   -- or the text names its first fault
   pub not_solved : (job : Job) → AskFor words (Solve job) → status ≡ 5 → Gives (IsFaulty tail.Nothing) io ⊎ GivesTooLong io
   -- of a network that it can read `solve` says one of the five, unless memory runs out
@@ -118,11 +131,15 @@ pub record IsRun (words : List (String Global)) (io : Streams) (status : ℕ) : 
   pub accepted : AskFor words Check → status ≡ 0 → Gives (Says Accepts) io
   pub rejected : status ≡ 10 → AskFor words Check × Gives (Says Rejects) io
   pub refused : AskFor words Check → status ≡ 5 → Gives (IsFaulty tail.Plan) io ⊎ Gives IsPlanFaulty io ⊎ GivesTooLong io
-  -- an operation overflows, of the walk of `check`, or of the run or the plan of `solve`
-  pub overflowed : status ≡ 4 → (AskFor words Check × Gives (Says Overflows) io) ⊎ GivesPlan IsOverflow words io
+  -- an operation overflows, of the walk of `check`, or of the run or the plan of `solve` or `demo`
+  pub overflowed : status ≡ 4 → (AskFor words Check × Gives (Says Overflows) io) ⊎ GivesPlan IsOverflow words io ⊎ GivesDemo (TellsPlan IsOverflow) words io
   -- `expand` read the whole input, and the text is that of its expanded network, or names its first fault
   pub expanded : AskFor words Expand → status ≡ 0 → Gives Expands io
   pub not_expanded : AskFor words Expand → status ≡ 5 → Gives (IsFaulty tail.Nothing) io ⊎ GivesTooLong io
+  -- `demo` wrote the summary of its network with the least cost
+  pub summed_up : (n : ℕ) → AskForDemo words n → status ≡ 0 → Writes (SumsUp n) io
+  -- it ends with one of these, and never says that there is no plan, or that none is least
+  pub demo_ends : (n : ℕ) → AskForDemo words n → (status ≡ 0) ⊎ (status ≡ 3) ⊎ (status ≡ 4) ⊎ (status ≡ 8) ⊎ (status ≡ 9)
   -- the source or the sink failed, or memory ran out
   pub unread_rest : status ≡ 7 → Rose io.source_faults io.source_faults' × (io.written' ≡ io.written)
   pub cut : status ≡ 8 → IsCut (IsAllowed words io) io

@@ -2,3 +2,4 @@
 pub mod Frame
 pub mod Checked
 pub mod Network
+pub mod Demo

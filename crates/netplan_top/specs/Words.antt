@@ -1,5 +1,5 @@
 -- The words behind the program's name.
-use Rattle.std.specs.Prelude.{◌≡◌, ℕ, ◌≤◌, Bool, true, false, List, [], ◌∷◌, map, codes}
+use Rattle.std.specs.Prelude.{◌≡◌, ℕ, ◌≤◌, ◌⊎◌, Bool, true, false, List, [], ◌∷◌, map, codes}
 use Rattle.std.specs.List.{flat_map}
 use Rattle.std.specs.String.{string_bytes}
 use Rattle.std.specs.declared.string.String.{String}
@@ -75,15 +75,26 @@ pub record AskToSolve (words : List (List ℕ)) (job : Job) : Type 0 where
 
 -- ---- commands
 
--- the words ask for this command: its word stands there, and no other but for the options of `solve`
+-- the words ask for this command, which reads an input: its word stands there, and no other but for the options of `solve`
 abbrev pub AskFor : List (String Global) → Command → Type 0
 AskFor words (Solve job) = AskToSolve (map string_bytes words) job
 AskFor words Check = map string_bytes words ≡ codes "check" ∷ []
 AskFor words Expand = map string_bytes words ≡ codes "expand" ∷ []
 
+-- the words ask for a command that reads an input
+abbrev pub ReadsInput : List (String Global) → Type 0
+ReadsInput words = (command : Command) × AskFor words command
+
+-- the words ask for the demo of this number: `demo` and 1 to 7 digits, which write a number from 1 to 1,000
+pub record AskForDemo (words : List (String Global)) (n : ℕ) : Type 0 where
+  pub digits : List ℕ
+  pub words_are : map string_bytes words ≡ codes "demo" ∷ digits ∷ []
+  pub is_count : IsCountTo 1000 digits
+  pub number_is : n ≡ number digits
+
 -- the words ask for a command
 abbrev pub IsCommand : List (String Global) → Type 0
-IsCommand words = (command : Command) × AskFor words command
+IsCommand words = ReadsInput words ⊎ ((n : ℕ) × AskForDemo words n)
 
 -- the usage text: the commands that there are
 abbrev pub usage_text : List ℕ

@@ -5,12 +5,14 @@ ghost use Rattle.netplan_top.specs.Commands.Answers.{AnswerOf};
 ghost use Rattle.netplan_top.specs.Steps.Solved.{IsWithinLimits};
 
 mod check;
+mod demo;
 mod expand;
 mod solve;
 mod stop;
 
 use crate::words::Command;
 use check::check_answer;
+pub(crate) use demo::demo_answer;
 use expand::expand_answer;
 use np_frac::Memory;
 use np_model::Gate;

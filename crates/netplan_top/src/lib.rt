@@ -7,6 +7,7 @@ mod texts;
 mod top;
 mod words;
 
+pub use demo_network::demo_scheme;
 pub use top::run;
 
 #[cfg(test)]

@@ -104,13 +104,20 @@ netplan,1 | periods,1 | end > 5 > netplan-refused,1 | fault,4,NoEnd | end
 netplan,1 | periods,1 | node,A > 5 > netplan-refused,1 | fault,4,NoEnd | end";
 
 const USAGE: &str = "netplan-usage,1 | usage,solve [--workers N] [--budget N] [--log] | \
-    usage,check | usage,expand | end";
+    usage,check | usage,expand | usage,demo N | end";
 
 // Words that are no command, in each line; none in the first.
 const NO_COMMANDS: &str = "
 check check
 expand check
 check --log
+demo
+demo 0
+demo 1001
+demo 1 2
+demo x
+demo 00000001
+Demo 1
 Solve
 solve solve
 solve 4
@@ -298,7 +305,7 @@ fn looks_at_the_words_first(rt: HostRuntime) -> Result<(), Fail> {
         // A source that fails at its first call: it is not asked.
         let fails = Vec::from_slice(alloc, &[1])?;
         let mut source = MemSource::new(bytes_of(alloc, "x")?, 1, fails);
-        let mut sink = SureSink::new(Vec::with_capacity(alloc, 100)?);
+        let mut sink = SureSink::new(Vec::with_capacity(alloc, 200)?);
         assert_eq!(rt;
             run(&rt, alloc, &words, &mut source, &mut sink, &OpenGate),
             6
@@ -369,5 +376,7 @@ fn refuses_what_is_too_long(rt: HostRuntime) -> Result<(), Fail> {
     Ok(())
 }
 
+mod demo;
 mod expand;
 mod solve;
+mod workers;

@@ -1,9 +1,9 @@
 //! The words behind the program's name.
 
-ghost use Rattle.std.specs.Prelude.{◌≡◌, ◌∷◌, [], ◌↔◌, IsTrue, MatchOption, SomeIff, map, unwrap_or};
+ghost use Rattle.std.specs.Prelude.{◌≡◌, ◌∷◌, [], ◌↔◌, ℕ, IsTrue, MatchOption, SomeIff, map, unwrap_or};
 ghost use Rattle.std.specs.String.{string_bytes};
 ghost use Rattle.np_frac.specs.Text.{number};
-ghost use Rattle.netplan_top.specs.Words.{AskFor, IsCommand, IsCountTo};
+ghost use Rattle.netplan_top.specs.Words.{AskFor, AskForDemo, IsCountTo, ReadsInput};
 ghost use Rattle.netplan_top.specs.Steps.Options.{AreTheRestOf};
 ghost use Rattle.netplan_top.specs.declared.words.Job.{Job};
 
@@ -17,7 +17,7 @@ pub(crate) struct Job {
     pub log: bool,
 }
 
-/// What the program can be asked for.
+/// What the program can be asked to say of an input.
 #[derive(Clone, Copy, Debug, PartialEq, Eq)]
 pub(crate) enum Command {
     /// A least-cost plan of a network.
@@ -113,9 +113,9 @@ fn job_of(words: &[String], given: Given) -> Option<Job>
     None
 }
 
-/// The command that the words name.
+/// The command that the words name, of those that read an input.
 pub(crate) fn command_of(words: &[String]) -> Option<Command>
-    ensures { MatchOption result (¬ (IsCommand words.now)) (λ command. AskFor words.now command) }
+    ensures { MatchOption result (¬ (ReadsInput words.now)) (λ command. AskFor words.now command) }
 {
     if is_word(words, "check") {
         return Some(Command::Check);
@@ -135,4 +135,17 @@ pub(crate) fn command_of(words: &[String]) -> Option<Command>
         log: false,
     };
     Some(Command::Solve(job_of(&words[1..], none)?))
+}
+
+/// The number of the demo that the words ask for.
+pub(crate) fn demo_of(words: &[String]) -> Option<u32>
+    ensures { MatchOption result ((n : ℕ) → ¬ (AskForDemo words.now n)) (λ n. AskForDemo words.now n) }
+{
+    if words.len() != 2 {
+        return None;
+    }
+    if !is_text(&words[0], "demo") {
+        return None;
+    }
+    count_to(1000, &words[1])
 }

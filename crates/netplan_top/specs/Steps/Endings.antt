@@ -3,12 +3,18 @@ use Rattle.std.specs.Prelude.{◌≡◌, ℕ, ◌<◌, ◌⊎◌, Option, List, 
 use Rattle.np_io.specs.Faults.{Rose}
 use Rattle.netplan_top.specs.declared.words.Command.{Command}
 use Rattle.netplan_top.specs.Commands.Answers.{AnswerOf}
+use Rattle.netplan_top.specs.Commands.Demo.{IsDemoAnswer}
 use Rattle.netplan_top.specs.Run.{Streams, IsWholeInput, IsTooLong, IsSomeText, IsCut, Wrote, WrotePart}
 
 -- all of the text was written and the status is its own, or the sink failed and the status is 8
 abbrev pub IsPrinted : List ℕ → ℕ → ℕ → ℕ → ℕ → ℕ → Option (List ℕ) → Option (List ℕ) → Type 0
 IsPrinted text own status faults faults' sure written written' =
     ((status ≡ own) × Wrote written written' text) ⊎ ((status ≡ 8) × Rose faults faults' × WrotePart written written' text × (sure < length text))
+
+-- a text that the demo of a number allows was printed, or memory ran out and nothing was written
+abbrev pub IsDemoEnd : ℕ → ℕ → ℕ → ℕ → ℕ → Option (List ℕ) → Option (List ℕ) → Type 0
+IsDemoEnd n status faults faults' sure written written' =
+    ((text : List ℕ) × (own : ℕ) × IsDemoAnswer n own text × IsPrinted text own status faults faults' sure written written') ⊎ ((status ≡ 9) × (written' ≡ written))
 
 -- the ways in which a command ends
 pub data Ending (command : Command) (io : Streams) (status : ℕ) : Type 0 where

@@ -30,6 +30,13 @@ IsFoundAs verdict.Unbounded = IsUnbounded
 IsFoundAs verdict.Budget = IsOutOfBudget
 IsFoundAs verdict.Overflow = IsOverflow
 
+-- the status and the text of a plan
+pub record IsTold (job : Job) (scheme : Scheme) (plan : Plan) (status : ℕ) (text : List ℕ) : Type 0 where
+  pub status_is : status ≡ verdict_status plan.verdict
+  pub text_is : text ≡ solved_text job scheme plan
+  pub fractions : HasFractions (told plan (prints_log job.log plan.verdict))
+  pub read_back : IsReadAs scheme (records_of text) (told plan (prints_log job.log plan.verdict))
+
 -- what is said of a scheme with this status
 pub record IsSolved (job : Job) (scheme : Scheme) (status : ℕ) (text : List ℕ) : Type 0 where
   pub plan : Plan

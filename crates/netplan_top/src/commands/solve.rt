@@ -6,7 +6,7 @@ ghost use Rattle.np_runs.specs.Verdicts.{log_of};
 ghost use Rattle.simplex_driver.specs.Budgets.{IsCrew, IsBudget};
 ghost use Rattle.certificates.specs.Certificates.{overflow_plan};
 ghost use Rattle.netplan_top.specs.Commands.Solve.{IsSolveAnswer, prints_log};
-ghost use Rattle.netplan_top.specs.Steps.Solved.{IsFoundAs, IsSolved, verdict_status};
+ghost use Rattle.netplan_top.specs.Steps.Solved.{IsFoundAs, IsSolved, IsTold, verdict_status};
 
 use crate::commands::Answer;
 use crate::commands::stop::{network_stop, stopped};
@@ -60,8 +60,8 @@ fn overflowed(alloc: Global, overflow: Overflow, log: Log) -> Plan
     }
 }
 
-// The plan of what a run over the expanded network of a scheme ends in.
-fn found<G: Gate>(
+/// The plan of what a run over the expanded network of a scheme ends in.
+pub(crate) fn found<G: Gate>(
     rt: &(impl Threads + Sync),
     alloc: Global,
     scheme: &Scheme,
@@ -112,6 +112,17 @@ fn prints_log(asked: bool, verdict: Verdict) -> bool
     }
 }
 
+/// The text of a plan, with its status.
+pub(crate) fn told(alloc: Global, scheme: &Scheme, job: Job, plan: &Plan) -> Result<Answer, Memory>
+    requires fits { PlanFits scheme.now plan.now }
+    ensures { IfOk result (λ answer. IsTold job scheme.now plan.now answer.status answer.text.items) }
+{
+    let log = prints_log(job.log, plan.verdict);
+    let text = plan_text(alloc, scheme, plan, log)?;
+    let status = status_of(plan.verdict);
+    Ok(Answer { status, text })
+}
+
 // What is said of a scheme that stands alone.
 fn solved<G: Gate>(
     rt: &(impl Threads + Sync),
@@ -125,10 +136,7 @@ fn solved<G: Gate>(
     ensures { IfOk result (λ answer. IsSolved job scheme.now answer.status answer.text.items) }
 {
     let plan = found(rt, alloc, scheme, job, gate)?;
-    let log = prints_log(job.log, plan.verdict);
-    let text = plan_text(alloc, scheme, &plan, log)?;
-    let status = status_of(plan.verdict);
-    Ok(Answer { status, text })
+    told(alloc, scheme, job, &plan)
 }
 
 /// What `solve` says of an input.

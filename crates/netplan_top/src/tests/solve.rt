@@ -62,13 +62,22 @@ fn solved(
     Ok((status, Vec::from_slice(alloc, sink.written())?))
 }
 
-// Runs a line of words, an input, a status and a text.
+// Runs a line of words, an input, a status and a text; with 1, 4 and 16 workers where the words do not say how many.
 fn expect_row(rt: &(impl Abort + Threads + Sync), alloc: Global, row: &str) -> Result<(), Fail> {
     let mut parts = row.split(" > ");
     let words = parts.next().unwrap_or("");
     let input = parts.next().unwrap_or("");
     let status = parts.next().unwrap_or("").parse::<u8>()?;
-    answers(rt, alloc, words, input, status, parts.next().unwrap_or(""))
+    let text = parts.next().unwrap_or("");
+    answers(rt, alloc, words, input, status, text)?;
+    if words.contains("--workers") {
+        return Ok(());
+    }
+    for workers in ["1", "16"] {
+        let words = format!(in alloc; "{words} --workers {workers}")?;
+        answers(rt, alloc, words.as_str(), input, status, text)?;
+    }
+    Ok(())
 }
 
 // Runs a line of an input and two texts, of which one is to be written.
@@ -95,11 +104,13 @@ fn solves_rows(rt: HostRuntime) -> Result<(), Fail> {
 
 #[test]
 fn solves_a_year(rt: HostRuntime) -> Result<(), Fail> {
-    let (status, bytes) = solved(&rt, rt.alloc(), "solve --workers 1", YEAR)?;
-    assert_eq!(rt; status, 0);
-    let text = str::from_utf8(&bytes)?;
-    for line in YEAR_LINES.lines() {
-        assert!(rt; text.lines().any(|own| own == line), "{line}");
+    for words in ["solve --workers 1", "solve", "solve --workers 16"] {
+        let (status, bytes) = solved(&rt, rt.alloc(), words, YEAR)?;
+        assert_eq!(rt; status, 0);
+        let text = str::from_utf8(&bytes)?;
+        for line in YEAR_LINES.lines() {
+            assert!(rt; text.lines().any(|own| own == line), "{line}");
+        }
     }
     Ok(())
 }
