@@ -1,199 +1,14 @@
-"""What `netplan` answers to `check` and `expand`, written a second time from docs/FORMATS.md in plain Python, for tests/differential.
+"""What `netplan` answers to `check` and `expand`, and the verdict and cost of `solve`, written a second time from docs/FORMATS.md in plain
+Python, for tests/differential.
 
-It knows nothing of the program: it reads records as lists of strings, and computes with Python's fractions. It does not know when a
-result no longer fits 128 bits, so numbers are to be small.
+It knows nothing of the program: it takes records as lists of strings, which tests/texts.py reads, and computes with Python's fractions.
+It does not know when a result no longer fits 128 bits, so numbers are to be small.
 """
 import csv
 import io
 from fractions import Fraction
 
-LARGEST = 2**127 - 1
-DEFINING = {"node": 2, "supply": 4, "arc": 8, "hold": 7, "drain": 6, "feed": 6, "piece": 4, "end": 1}
-VERDICTS = ("optimal", "infeasible", "unbounded", "budget", "overflow")
-NEEDED = {"optimal": "cost", "infeasible": "gap", "budget": "arc", "overflow": "past"}
-FIELDS = {"cost": 2, "gap": 2, "arc": 2, "past": 6, "flow": 4, "price": 4, "ray": 4, "turned": 2, "pivot": 5, "end": 1}
-OPERATIONS = ("plus", "minus", "times", "over")
-
-
-class Network:
-    """A network text without a fault, by its records."""
-
-    def __init__(self, records):
-        self.periods = int(records[1][1])
-        self.nodes = [r[1] for r in records if r[0] == "node"]
-        self.supply = {(t, n): Fraction(0) for t in range(1, self.periods + 1) for n in self.nodes}
-        self.flows, named = [], {}
-        for r in records[2:]:
-            if r[0] == "supply":
-                for t in range(1, self.periods + 1) if r[2] == "*" else [int(r[2])]:
-                    self.supply[t, r[1]] = Fraction(r[3])
-            elif r[0] in ("arc", "hold", "drain", "feed"):
-                named[r[1]] = Flow(r)
-                self.flows.append(named[r[1]])
-            elif r[0] == "piece":
-                named[r[1]].add_piece(r[2], r[3])
-
-    def staged(self):
-        """The staged arcs, as pairs of a period and a flow."""
-        return [(t, f) for t in range(1, self.periods + 1) for f in self.flows if t <= f.last_period(self.periods)]
-
-
-class Flow:
-    """A flow with its segments: where each begins and ends (None for infinite), and its slope."""
-
-    def __init__(self, record):
-        self.kind, self.name, *rest = record
-        self.tail = rest[0] if self.kind != "feed" else None
-        self.head = {"arc": rest[1], "hold": rest[0], "drain": None, "feed": rest[0]}[self.kind]
-        self.gain = Fraction(rest[-4]) if self.kind in ("arc", "hold") else Fraction(1)
-        self.lower, self.cost = Fraction(rest[-3]), Fraction(rest[-1])
-        self.segments = [(self.lower, amount_or_infinite(rest[-2]), self.cost)]
-
-    def add_piece(self, width, slope):
-        start, width = self.segments[-1][1], amount_or_infinite(width)
-        self.segments.append((start, None if width is None else start + width, Fraction(slope)))
-
-    def last_period(self, periods):
-        return periods - 1 if self.kind == "hold" else periods
-
-    def last_end(self):
-        return self.segments[-1][1]
-
-    def cost_of(self, amount):
-        start, end, slope = self.segments[0]
-        cost = slope * lesser(amount, end)
-        for start, end, slope in self.segments[1:]:
-            if start < amount:
-                cost += slope * (lesser(amount, end) - start)
-        return cost
-
-
-def amount_or_infinite(text):
-    return None if text == "inf" else Fraction(text)
-
-
-def lesser(amount, end):
-    return amount if end is None else min(amount, end)
-
-
-# ---- the first fault of a network text
-
-
-def is_digits(text, most):
-    return 1 <= len(text) <= most and all(c in "0123456789" for c in text)
-
-
-def is_amount(text):
-    text = text.removeprefix("-")
-    if "/" in text:
-        upper, lower = text.split("/", 1)
-        return is_digits(upper, 18) and is_digits(lower, 19) and int(lower) != 0
-    whole, *decimals = text.split(".", 1)
-    return is_digits(whole, 18) and all(is_digits(d, 9) for d in decimals)
-
-
-def is_name(text):
-    return 1 <= len(text.encode()) <= 64 and all(0x21 <= byte <= 0x7E for byte in text.encode())
-
-
-def first(*tests):
-    """The word of the first test that fails. A test is a function, since a later one may need what an earlier one makes sure of."""
-    return next((word for is_right, word in tests if not is_right()), None)
-
-
-class NetworkReader:
-    """The records of a network text, one after the other."""
-
-    def __init__(self, periods):
-        self.periods, self.nodes, self.flows, self.arcs = periods, set(), {}, 0
-
-    def definition(self, names, name):
-        return [(lambda: is_name(name), "BadName"), (lambda: name not in names, "Repeated")]
-
-    def count(self, flow):
-        """One more arc for each period of a flow, for itself or for a piece."""
-        self.arcs += flow.last_period(self.periods)
-        return "TooMany" if self.arcs > 100_000 else None
-
-    def node(self, name):
-        fault = first(*self.definition(self.nodes, name))
-        self.nodes.add(name)
-        return fault or ("TooMany" if len(self.nodes) * self.periods > 20_000 else None)
-
-    def supply(self, name, period, amount):
-        return first(
-            (lambda: name in self.nodes, "NoSuchName"),
-            (lambda: period == "*" or is_whole(period) and 1 <= int(period) <= self.periods, "BadPeriod"),
-            (lambda: is_amount(amount), "BadNumber"),
-        )
-
-    def flow(self, record):
-        kind, name, *rest = record
-        gain = rest[-4] if kind in ("arc", "hold") else "1"
-        lower, upper, cost = rest[-3:]
-        ends = rest[:2] if kind == "arc" else rest[:1]
-        fault = first(
-            *self.definition(self.flows, name),
-            *[(lambda end=end: end in self.nodes, "NoSuchName") for end in ends],
-            (lambda: is_amount(gain), "BadNumber"),
-            (lambda: Fraction(gain) > 0, "BadGain"),
-            (lambda: is_amount(lower), "BadNumber"),
-            (lambda: upper == "inf" or is_amount(upper), "BadNumber"),
-            (lambda: is_amount(cost), "BadNumber"),
-            (lambda: len(set(ends)) == len(ends), "SameEnds"),
-            (lambda: upper == "inf" or Fraction(lower) <= Fraction(upper), "BadBounds"),
-        )
-        if fault:
-            return fault
-        self.flows[name] = Flow(record)
-        return self.count(self.flows[name])
-
-    def piece(self, name, width, slope):
-        fault = first(
-            (lambda: name in self.flows, "NoSuchName"),
-            (lambda: width == "inf" or is_amount(width), "BadNumber"),
-            (lambda: is_amount(slope), "BadNumber"),
-            (lambda: self.flows[name].last_end() is not None, "PieceAfterInfinite"),
-            (lambda: width == "inf" or Fraction(width) > 0, "BadBounds"),
-            (lambda: Fraction(slope) >= self.flows[name].segments[-1][2], "NotConvex"),
-        )
-        if fault:
-            return fault
-        self.flows[name].add_piece(width, slope)
-        return self.count(self.flows[name])
-
-    def fault(self, record):
-        word, *fields = record
-        if word not in DEFINING:
-            return "Unknown"
-        if len(record) != DEFINING[word]:
-            return "FieldCount"
-        if word == "end":
-            return None
-        return {"node": self.node, "supply": self.supply, "piece": self.piece}.get(word, lambda *_: self.flow(record))(*fields)
-
-
-def network_fault(records, alone):
-    """The number of the record with the first fault of a network text, and its word; and how many records it has up to its `end`."""
-    head = [
-        (lambda: len(records) > 0, (1, "NoEnd")),
-        (lambda: records[0] == ["netplan", "1"], (1, "Header")),
-        (lambda: len(records) > 1, (2, "NoEnd")),
-        (lambda: records[1][0] == "periods", (2, "Header")),
-        (lambda: len(records[1]) == 2, (2, "FieldCount")),
-        (lambda: is_whole(records[1][1]) and 1 <= int(records[1][1]) <= 20_000, (2, "BadPeriod")),
-    ]
-    fault = first(*head)
-    if fault:
-        return fault, 0
-    reader = NetworkReader(int(records[1][1]))
-    for place, record in enumerate(records[2:], 3):
-        word = reader.fault(record)
-        if word:
-            return (place, word), 0
-        if record[0] == "end":
-            return ((place + 1, "AfterEnd") if alone and place < len(records) else None), place
-    return (len(records) + 1, "NoEnd"), 0
+from texts import NEEDED, Network, Plan, network_fault, plan_fault
 
 
 # ---- the expanded network
@@ -216,107 +31,7 @@ def expanded(network):
     return [["netplan-net", 1], ["size", len(nodes), len(arcs)]] + nodes + arcs + [["end"]]
 
 
-# ---- the first fault of a plan text
-
-
-def is_whole(text):
-    return is_digits(text, 9)
-
-
-def is_fraction(text):
-    parts = text.removeprefix("-").split("/")
-    right = [is_digits(p, 39) and int(p) <= LARGEST for p in parts]
-    return len(parts) <= 2 and all(right) and (len(parts) == 1 or int(parts[1]) != 0)
-
-
-def is_past(row, place, operation, left, right):
-    checker_row = place in [f"C{k}" for k in range(7)]
-    places = {"A8": checker_row, "A3": place == "turn" or is_whole(place), "A7": place == "turn" or is_whole(place)}
-    known = row in [f"A{k}" for k in range(1, 9)] and places.get(row, is_whole(place))
-    return known and operation in OPERATIONS and is_fraction(left) and is_fraction(right)
-
-
-class PlanReader:
-    """The records of a plan text, one after the other."""
-
-    def __init__(self, network, verdict):
-        self.verdict, self.given, self.pivots = verdict, set(), 0
-        flows = {f.name: f.last_period(network.periods) for f in network.flows}
-        self.lasts = {"flow": flows, "ray": flows, "price": dict.fromkeys(network.nodes, network.periods)}
-
-    def once(self, key, right):
-        """A part that may stand once, where its fields are right or not."""
-        if not right:
-            return "BadNumber"
-        if key in self.given:
-            return "Repeated"
-        self.given.add(key)
-        return None
-
-    def amount(self, word, name, period, amount):
-        last = self.lasts[word].get(name)
-        if last is None:
-            return "NoSuchName"
-        if not is_whole(period) or not 1 <= int(period) <= last:
-            return "BadPeriod"
-        return self.once((word, name, int(period)), is_fraction(amount))
-
-    def pivot(self, number, enter, leave, mark):
-        right = is_whole(number) and int(number) == self.pivots + 1 <= 1_000_000
-        if not (right and is_whole(enter) and is_whole(leave) and mark in ("lower", "upper")):
-            return "BadNumber"
-        self.pivots += 1
-        return None
-
-    def fault(self, record):
-        word, *fields = record
-        if word not in FIELDS:
-            return "Unknown"
-        if len(record) != FIELDS[word]:
-            return "FieldCount"
-        if word in ("cost", "gap"):
-            return self.once(word, is_fraction(fields[0]))
-        if word in ("arc", "turned"):
-            return self.once(word, is_whole(fields[0]))
-        if word == "past":
-            return self.once(word, is_past(*fields))
-        if word == "pivot":
-            return self.pivot(*fields)
-        if word == "end":
-            return "Missing" if NEEDED.get(self.verdict, "end") not in self.given | {"end"} else None
-        return self.amount(word, *fields)
-
-
-def plan_fault(network, records, skipped):
-    """The number of the record with the first fault of a plan text behind so many records, and its word; None where there is none."""
-    heads = [lambda r: r == ["netplan-plan", "1"], lambda r: len(r) == 2 and r[0] == "verdict" and r[1] in VERDICTS]
-    for place, is_right in enumerate(heads):
-        if place == len(records):
-            return skipped + place + 1, "NoEnd"
-        if not is_right(records[place]):
-            return skipped + place + 1, "Header"
-    reader, ended = PlanReader(network, records[1][1]), False
-    for place, record in enumerate(records[2:], 2):
-        fault = "AfterEnd" if ended else reader.fault(record)
-        if fault is not None:
-            return skipped + place + 1, fault
-        ended = record[0] == "end"
-    return None if ended else (skipped + len(records) + 1, "NoEnd")
-
-
 # ---- the walk
-
-
-class Plan:
-    """The plan of a text without a fault: amounts by kind, name and period, 0 where none is given."""
-
-    def __init__(self, records):
-        self.verdict = records[1][1]
-        self.single = {r[0]: r[1] for r in records if r[0] in ("cost", "gap")}
-        self.amounts = {(r[0], r[1], int(r[2])): Fraction(r[3]) for r in records if r[0] in ("flow", "price", "ray")}
-
-    def of(self, word, name, period):
-        return self.amounts.get((word, name, period), Fraction(0))
 
 
 class Walk:
@@ -411,6 +126,90 @@ class Walk:
                 return rejected
         single = self.plan.single.get(NEEDED.get(self.plan.verdict))
         return ["accepted", self.plan.verdict] + ([Fraction(single)] if single is not None else [])
+
+
+# ---- the least cost
+
+
+class Tableau:
+    """Equations with their right sides last, in each of which one basic unknown stands alone; all unknowns and right sides are at least 0."""
+
+    def __init__(self, rows, basis):
+        self.rows, self.basis = rows, basis
+
+    def pivot(self, place, entering):
+        """Makes an unknown the basic one of an equation, and takes it out of all others."""
+        lead = self.rows[place][entering]
+        leading = self.rows[place] = [x / lead for x in self.rows[place]]
+        for k, row in enumerate(self.rows):
+            factor = row[entering]
+            if k != place and factor != 0:
+                self.rows[k] = [x - factor * y if y != 0 else x for x, y in zip(row, leading)]
+        self.basis[place] = entering
+
+    def descend(self, costs):
+        """The least sum of costs, or None where it falls without end. By Bland's rule the first unknown that lowers it enters, and of
+        those that then reach 0 the first leaves, so no basis comes twice."""
+        while True:
+            priced = [(costs[basic], row) for basic, row in zip(self.basis, self.rows) if costs[basic] != 0]
+            lowering = (k for k, cost in enumerate(costs) if cost < sum(c * row[k] for c, row in priced if row[k] != 0))
+            entering = next(lowering, None)
+            if entering is None:
+                return sum(c * row[-1] for c, row in priced)
+            limits = [(row[-1] / row[entering], self.basis[k], k) for k, row in enumerate(self.rows) if row[entering] > 0]
+            if not limits:
+                return None
+            self.pivot(min(limits)[2], entering)
+
+    def drop(self, count):
+        """Takes all unknowns from so many on out of the equations, which all are 0."""
+        for place, basic in enumerate(self.basis):
+            others = [k for k in range(count) if self.rows[place][k] != 0]
+            if basic >= count and others:
+                self.pivot(place, others[0])
+        kept = [k for k, basic in enumerate(self.basis) if basic < count]
+        self.rows, self.basis = [self.rows[k][:count] + self.rows[k][-1:] for k in kept], [self.basis[k] for k in kept]
+
+
+def equations(network):
+    """The expanded network as equations of what each arc has above its lower bound, and of what it has left to a finite upper bound; and
+    the costs of these unknowns, and the cost of the lower bounds. Each node has an artificial unknown behind all of these."""
+    records = expanded(network)
+    nodes, arcs = [r for r in records if r[0] == "node"], [r for r in records if r[0] == "arc"]
+    bounded = [k for k, arc in enumerate(arcs) if arc[9] != "inf"]
+    count = len(arcs) + len(bounded)
+    rows, basis = [], []
+    for place, node in enumerate(nodes):
+        row = [Fraction(0)] * (count + len(nodes)) + [node[4]]
+        for k, (tail, head, gain, lower) in enumerate(arc[5:9] for arc in arcs):
+            row[k] = Fraction(tail == node[1]) - (head == node[1]) * (gain if gain != "-" else 1)
+            row[-1] -= row[k] * lower
+        if row[-1] < 0:
+            row = [-x for x in row]
+        row[count + place] = Fraction(1)
+        rows.append(row)
+        basis.append(count + place)
+    for place, k in enumerate(bounded, len(arcs)):
+        row = [Fraction(0)] * (count + len(nodes)) + [Fraction(arcs[k][9] - arcs[k][8])]
+        row[k] = row[place] = Fraction(1)
+        rows.append(row)
+        basis.append(place)
+    costs = [arc[10] for arc in arcs] + [Fraction(0)] * len(bounded)
+    return Tableau(rows, basis), costs, sum(arc[8] * arc[10] for arc in arcs)
+
+
+def least_cost(network):
+    """The verdict of a network, and its least cost where there is one."""
+    tableau, costs, base = equations(network)
+    artificial = len(tableau.rows[0]) - 1 - len(costs) if tableau.rows else 0
+    if tableau.descend([Fraction(0)] * len(costs) + [Fraction(1)] * artificial) > 0:
+        return "infeasible", None
+    tableau.drop(len(costs))
+    least = tableau.descend(costs)
+    return ("unbounded", None) if least is None else ("optimal", base + least)
+
+
+# ---- the answers
 
 
 def text_of(records, line_end="\n"):
