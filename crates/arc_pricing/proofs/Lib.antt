@@ -1,3 +1,2 @@
 pub mod Eligibility
 pub mod Order
-pub mod SmallNets

@@ -5,6 +5,7 @@ use Rattle.std.proofs.Common.{refl, sym, ap, ◌∙◌, inl, inr, arith}
 use Rattle.std.proofs.lemmas.List.{append_assoc}
 use Rattle.std.proofs.lemmas.List.Elements.{filter-append}
 use Rattle.gain_graphs.specs.Arcs.{IsIn}
+use Rattle.gain_graphs.proofs.Lists.{in_front, in_back, in_append, range_holds, range_within, filter_holds}
 use Rattle.np_model.specs.declared.rows.Overflow.{Overflow}
 use Rattle.np_model.specs.Network.Flows.{Network}
 use Rattle.np_model.specs.Basis.States.{Values}
@@ -14,20 +15,6 @@ use Rattle.arc_pricing.specs.declared.refusal.PriceRefusal.TheVariants as refusa
 use Rattle.arc_pricing.specs.Prices.{is_eligible}
 use Rattle.arc_pricing.proofs.Eligibility.{eligible_so, eligible_is}
 use Rattle.arc_pricing.specs.Candidates.{cyclic, PriceFits, IsTested, IsFirstOverflow, IsCause}
-
--- ---- numbers from a place on
-
-pub range_holds : (i n v : ℕ) → i ≤ v → v < i + n → IsIn v (range_with_len i n)
-range_holds i zero v h k = absurd (omega arith)
-range_holds i (suc n) v h k = elim (cases i v h) [ inl e ↦ inl e | inr l ↦ inr (range_holds (i + 1) n v (omega arith) (omega arith)) ]
-  where
-    cases : (a b : ℕ) → a ≤ b → (b ≡ a) ⊎ (a < b)
-    cases a b l = grind arith
-
-pub range_within : (i n v : ℕ) → IsIn v (range_with_len i n) → (i ≤ v) × (v < i + n)
-range_within i zero v k = absurd k
-range_within i (suc n) v (inl e) = (omega arith, omega arith)
-range_within i (suc n) v (inr k) = let r = range_within (i + 1) n v k in (omega (arith, r.0), omega (arith, r.1))
 
 -- the numbers from a place on, cut at another one
 cut : (a m n : ℕ) → range_with_len a (m + n) ≡ range_with_len a m ++ range_with_len (a + m) n
@@ -49,45 +36,15 @@ range_more start here h =
     let f : start + (here - start) ≡ here = omega arith in
     rw e (cut start (here - start) (suc zero) ∙ rw f refl)
 
--- ---- membership
-
-pub in_left : {A : Type 0} (x : A) (xs ys : List A) → IsIn x xs → IsIn x (xs ++ ys)
-in_left x [] ys i = absurd i
-in_left x (y ∷ xs) ys (inl e) = inl e
-in_left x (y ∷ xs) ys (inr i) = inr (in_left x xs ys i)
-
-pub in_right : {A : Type 0} (x : A) (xs ys : List A) → IsIn x ys → IsIn x (xs ++ ys)
-in_right x [] ys i = i
-in_right x (y ∷ xs) ys i = inr (in_right x xs ys i)
-
-pub in_either : {A : Type 0} (x : A) (xs ys : List A) → IsIn x (xs ++ ys) → IsIn x xs ⊎ IsIn x ys
-in_either x [] ys i = inr i
-in_either x (y ∷ xs) ys (inl e) = inl (inl e)
-in_either x (y ∷ xs) ys (inr i) = elim (in_either x xs ys i) [ inl l ↦ inl (inr l) | inr r ↦ inr r ]
-
-pub filter_holds : (p : ℕ → Bool) (xs : List ℕ) (a : ℕ) → IsIn a (filter p xs) ↔ (IsIn a xs × (p a ≡ true))
-filter_holds p [] a = ((λ i. absurd i), (λ r. absurd r.0))
-filter_holds p (x ∷ xs) a = by (p x) refl (filter_holds p xs a)
-  where
-    by : (b : Bool) → p x ≡ b → (IsIn a (filter p xs) ↔ (IsIn a xs × (p a ≡ true))) → IsIn a (if b then x ∷ filter p xs else filter p xs) ↔ (IsIn a (x ∷ xs) × (p a ≡ true))
-    by true e held = (
-      (λ i. elim i [ inl m ↦ (inl m, ap p m ∙ e) | inr k ↦ (inr (held.0 k).0, (held.0 k).1) ]),
-      (λ r. elim r.0 [ inl m ↦ inl m | inr k ↦ inr (held.1 (k, r.1)) ]),
-    )
-    by false e held = (
-      (λ i. (inr (held.0 i).0, (held.0 i).1)),
-      (λ r. elim r.0 [ inl m ↦ absurd (cc (ap p m, r.1, e)) | inr k ↦ held.1 (k, r.1) ]),
-    )
-
 pub cyclic_holds : (from n a : ℕ) → IsIn a (cyclic from n) ↔ (a < n)
 cyclic_holds from n a = (
-  (λ i. elim (in_either a (range_with_len from (n - from)) (range_with_len 0 (min from n)) i) [
+  (λ i. elim (in_append a (range_with_len from (n - from)) (range_with_len 0 (min from n)) i) [
     | inl l ↦ let h = range_within from (n - from) a l in omega (arith, h.0, h.1)
     | inr r ↦ let h = range_within 0 (min from n) a r in omega (arith, h.1)
   ]),
   (λ below. elim (sides from a) [
-    | inl l ↦ in_left a (range_with_len from (n - from)) (range_with_len 0 (min from n)) (range_holds from (n - from) a l (omega arith))
-    | inr r ↦ in_right a (range_with_len from (n - from)) (range_with_len 0 (min from n)) (range_holds 0 (min from n) a (omega arith) (omega arith))
+    | inl l ↦ in_front a (range_with_len from (n - from)) (range_with_len 0 (min from n)) (range_holds from (n - from) a l (omega arith))
+    | inr r ↦ in_back a (range_with_len from (n - from)) (range_with_len 0 (min from n)) (range_holds 0 (min from n) a (omega arith) (omega arith))
   ]),
 )
   where
@@ -146,7 +103,7 @@ behind net real s xs ys (refusal.Past o) fit c = record {
   arc = c.arc;
   after = c.after;
   in_order = ap (λ t. xs ++ t) c.in_order ∙ sym (append_assoc xs c.before (c.arc ∷ c.after));
-  earlier = λ a i. elim (in_either a xs c.before i) [ inl l ↦ fit a l | inr m ↦ c.earlier a m ];
+  earlier = λ a i. elim (in_append a xs c.before i) [ inl l ↦ fit a l | inr m ↦ c.earlier a m ];
   priced = c.priced;
   overflows = c.overflows;
 }

@@ -9,6 +9,3 @@ mod scan;
 pub use prices::{eligible, price};
 pub use refusal::PriceRefusal;
 pub use scan::candidates;
-
-#[cfg(test)]
-mod tests;

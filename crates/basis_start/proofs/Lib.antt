@@ -1,3 +1,2 @@
 pub mod Residuals
 pub mod Artificial
-pub mod Gains

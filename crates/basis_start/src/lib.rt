@@ -8,6 +8,3 @@ mod residual;
 
 pub use basis::start;
 pub use refusal::StartRefusal;
-
-#[cfg(test)]
-mod tests;

@@ -10,7 +10,7 @@ use Rattle.gain_graphs.specs.Arcs.{IsIn, Step, Along, IsWalk, AreJoined, product
 use Rattle.gain_graphs.specs.QuasiTrees.{LiesIn, HasExtra, IsQuasiTree}
 use Rattle.gain_graphs.proofs.Walks.{joined_trans}
 use Rattle.np_frac.specs.Ratio.{Ratio, whole, zero_ratio, one_ratio, ◌<ᵣ◌, ◌*ᵣ◌}
-use Rattle.np_frac.proofs.Field.{*ᵣ-one}
+use Rattle.np_frac.proofs.Field.{*ᵣ-one, above-apart, whole_above, one_above}
 use Rattle.np_model.specs.declared.arc.Ends.{Ends}
 use Rattle.np_model.specs.declared.arc.Ends.TheVariants.{Link, Drain, Feed}
 use Rattle.np_model.specs.Network.Arcs.{AreNodes, IsGaining}
@@ -21,18 +21,6 @@ use Rattle.bench_pieces.specs.Shapes.{arc_ends}
 use Rattle.bench_pieces.proofs.Trees.{below_holds, stands, over_link, quasi_tree_if}
 
 -- ---- the gains
-
-above_apart : (g : Ratio) → zero_ratio <ᵣ g → g ≢ zero_ratio
-unfolding whole
-above_apart g h e = let k : zero_ratio <ᵣ zero_ratio = subst (λ t. zero_ratio <ᵣ t) e h in absurd (omega (arith, ints, k.cross))
-
-one_above : zero_ratio <ᵣ one_ratio
-unfolding whole
-one_above = record { cross = omega (arith, ints) }
-
-two_above : zero_ratio <ᵣ whole (pos 2)
-unfolding whole
-two_above = record { cross = omega (arith, ints) }
 
 two_not_one : whole (pos 2) ≢ one_ratio
 unfolding whole
@@ -46,7 +34,7 @@ IsGood n (Drain i) = i < n
 IsGood n (Feed i) = i < n
 
 pub good_lies : (n : ℕ) (e : Ends) → IsGood n e → LiesIn ratios (range_with_len 0 n) (graph_ends e)
-good_lies n (Link i j g) h = (below_holds n i h.0, below_holds n j h.1, above_apart g h.3)
+good_lies n (Link i j g) h = (below_holds n i h.0, below_holds n j h.1, above-apart h.3)
 good_lies n (Drain i) h = below_holds n i h
 good_lies n (Feed i) h = below_holds n i h
 
@@ -95,7 +83,7 @@ good Star n v h l = elim (cases_eq v 0) [
   | inr d ↦ subst (λ t. IsGood n t) (sym (star_link n v (omega (arith, d)))) (omega arith, l, (λ e. absurd (omega (arith, d, e))), one_above)
 ]
 good Cycle n v h l = elim (cases_eq v 0) [
-  | inl e ↦ subst (λ (t : ℕ). IsGood n (arc_ends Cycle n t)) (sym e) (subst (λ t. IsGood n t) (sym (cycle_first n h)) (omega arith, omega arith, (λ q. absurd (omega (arith, q))), two_above))
+  | inl e ↦ subst (λ (t : ℕ). IsGood n (arc_ends Cycle n t)) (sym e) (subst (λ t. IsGood n t) (sym (cycle_first n h)) (omega arith, omega arith, (λ q. absurd (omega (arith, q))), whole_above (pos 2) (omega (arith, ints))))
   | inr d ↦ elim (cases_eq (v + 1) n) [
     | inl e ↦ subst (λ t. IsGood n t) (sym (cycle_last n v e (omega (arith, d)))) (l, omega arith, (λ q. absurd (omega (arith, d, q))), one_above)
     | inr k ↦ subst (λ t. IsGood n t) (sym (cycle_link n v (v + 1) refl (omega (arith, k)) (omega (arith, d)))) (l, omega (arith, k), (λ q. absurd (omega (arith, q))), one_above)

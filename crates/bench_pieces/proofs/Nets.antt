@@ -31,7 +31,8 @@ use Rattle.np_basis.specs.PivotLaws.{unit_of}
 use Rattle.tree_flows.specs.Answers.{CanEnter, IsAnswer}
 use Rattle.ratio_test.specs.Asked.{AreWithin, IsOutside, IsAlong}
 use Rattle.np_basis.proofs.Ascending.{ascends, ascends_once, rises}
-use Rattle.np_basis.proofs.Basics.{range_holds, range_within, range_ascends}
+use Rattle.gain_graphs.proofs.Lists.{range_holds, range_within}
+use Rattle.np_basis.proofs.Basics.{range_ascends}
 use Rattle.quasi_tree.specs.Store.{IsHeld}
 use Rattle.bench_pieces.specs.declared.shape.Shape.{Shape}
 use Rattle.bench_pieces.specs.Shapes.{arc_ends, net_arc, supplies, net_arcs, drains, full_net, piece_basics, full_piece}

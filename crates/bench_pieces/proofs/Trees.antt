@@ -9,7 +9,8 @@ use Rattle.gain_graphs.proofs.Walks.{joined_trans, joined_sym}
 use Rattle.np_frac.specs.Ratio.{Ratio}
 use Rattle.np_model.specs.Basis.Graphs.{ratios}
 use Rattle.np_basis.proofs.Ascending.{ascends_once}
-use Rattle.np_basis.proofs.Basics.{range_holds, range_within, range_ascends}
+use Rattle.gain_graphs.proofs.Lists.{range_holds, range_within}
+use Rattle.np_basis.proofs.Basics.{range_ascends}
 
 pub below_holds : (n v : ℕ) → v < n → IsIn v (range_with_len 0 n)
 below_holds n v below = range_holds 0 n v (omega arith) (omega arith)

@@ -27,7 +27,7 @@ fn part(unit: Frac, num: i128, den: i128) -> Frac {
 }
 
 // A link with this gain, or with the gain 1 where these parts make none.
-#[tactic(auto, using(crate::proofs::Gains::one_above))]
+#[tactic(auto, using(np_frac::proofs::Field::one_above))]
 fn link(nodes: u32, from: u32, to: u32, num: u32, den: u32) -> Ends
     requires one { from < nodes }
     requires other { to < nodes }

@@ -20,7 +20,7 @@ const NODES: u32 = 1_000;
 pub(crate) const ARCS: u32 = 100_000;
 
 // A fraction above 0, or 1 where these parts make none.
-#[tactic(auto, using(crate::proofs::Gains::one_above))]
+#[tactic(auto, using(np_frac::proofs::Field::one_above))]
 fn gain(num: i128, den: i128) -> Frac
     ensures { zero_ratio <ᵣ result }
 {
@@ -46,7 +46,6 @@ fn ends_of(number: u32) -> Ends
 }
 
 // All links, from 0 up to 10.
-#[tactic(auto, using(crate::proofs::Gains::ten_at_least))]
 fn arcs_of(alloc: Global) -> io::Result<Vec<NetArc>>
     ensures many { IfOk result (λ list. length list.items ≡ 100000) }
     ensures sound { IfOk result (λ list. All (IsSoundArc 1000) list.items) }

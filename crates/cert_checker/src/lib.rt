@@ -13,8 +13,6 @@ mod reduced;
 mod segment;
 mod staged;
 mod sums;
-#[cfg(test)]
-mod tests;
 mod walk;
 
 pub use answer::{CheckRefusal, Checked, Clause};

@@ -25,4 +25,3 @@ mod Sums
 mod Supplies
 mod Gathering
 mod Outcomes
-mod AtOnce

@@ -264,6 +264,3 @@ impl Draft {
             && is_there(parts.overflow, &self.overflow)
     }
 }
-
-#[cfg(test)]
-mod tests;

@@ -18,6 +18,3 @@ pub use certifying::{TextRefusal, certify};
 pub use reading::read_plan;
 pub use refused::{PlanCode, PlanRefused};
 pub use writing::plan_text;
-
-#[cfg(test)]
-mod tests;

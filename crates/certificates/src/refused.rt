@@ -72,7 +72,7 @@ impl From<Memory> for PlanRefused {
 }
 
 /// Why a record was not taken.
-#[derive(Clone, Copy, Debug, PartialEq, Eq)]
+#[derive(Clone, Copy, PartialEq, Eq)]
 pub(crate) enum Stop {
     /// The record has this fault.
     Fault(PlanCode),

@@ -7,4 +7,3 @@ mod Shown
 mod Forbidden
 mod Falling
 mod Gathering
-mod TwoNodes

@@ -7,6 +7,3 @@ pub mod laws;
 
 pub use amounts::{GatherRefusal, gather};
 pub use flat::flatten;
-
-#[cfg(test)]
-mod tests;

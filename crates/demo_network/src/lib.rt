@@ -6,6 +6,3 @@ mod parts;
 mod scheme;
 
 pub use scheme::demo_scheme;
-
-#[cfg(test)]
-mod tests;

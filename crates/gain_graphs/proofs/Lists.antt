@@ -1,5 +1,7 @@
 -- Lists with an entry marked, lists of numbers in which none stands twice, and what is in them.
-use Rattle.std.proofs.Common.{◌≡◌, ◌⊎◌, inl, inr, sym, ap, refl, ◌∙◌, subst, ℕ, suc, ◌≤◌, List, [], ◌∷◌, ◌++◌, length, map, arith}
+use Rattle.std.specs.Prelude.{◌↔◌, ◌+◌, ◌<◌, zero, Bool, true, false, cond, filter}
+use Rattle.std.specs.List.{range_with_len}
+use Rattle.std.proofs.Common.{◌≡◌, ◌⊎◌, inl, inr, sym, ap, refl, ◌∙◌, subst, ℕ, suc, ◌≤◌, List, [], ◌∷◌, ◌++◌, length, map, arith, get_or, true≢false}
 use native.Mathlib.Decide.{ℕ_discrete}
 use Rattle.gain_graphs.specs.Arcs.{IsIn, AreDistinct}
 
@@ -45,6 +47,11 @@ pub in_map_of : {A B : Type 0} (f : A → B) (y : B) (xs : List A) → IsIn y (m
 in_map_of f y [] i = absurd i
 in_map_of f y (x ∷ xs) (inl e) = (x, inl refl, e)
 in_map_of f y (x ∷ xs) (inr i) = let r = in_map_of f y xs i in (r.0, inr r.1, r.2)
+
+pub in_list : {A : Type 0} (xs : List A) (i : ℕ) (d : A) → i < length xs → IsIn (get_or xs i d) xs
+in_list [] i d l = absurd (omega arith)
+in_list (x ∷ xs) zero d l = inl refl
+in_list (x ∷ xs) (suc i) d l = inr (in_list xs i d (omega arith))
 
 pub split_at : {A : Type 0} (x : A) (xs : List A) → IsIn x xs → (before : List A) × (after : List A) × (before ++ x ∷ after ≡ xs)
 split_at x [] i = absurd i
@@ -101,3 +108,32 @@ others_once (b ∷ before) a after d =
       (λ i. d.0 (in_with b before a after i), r.0),
       elim [ inl p ↦ d.0 (subst (λ t. IsIn t (before ++ a ∷ after)) p (in_back a before (a ∷ after) (inl refl))) | inr i ↦ r.1 i ],
     )
+
+-- what passes a test
+pub filter_holds : {A : Type 0} (p : A → Bool) (xs : List A) (x : A) → IsIn x (filter p xs) ↔ (IsIn x xs × (p x ≡ true))
+filter_holds p [] x = ((λ i. absurd i), (λ r. absurd r.0))
+filter_holds {A} p (y ∷ xs) x = go (p y) refl (filter_holds p xs x)
+  where
+    go : (b : Bool) → p y ≡ b → (IsIn x (filter p xs) ↔ (IsIn x xs × (p x ≡ true))) → IsIn x (cond b (y ∷ filter p xs) (filter p xs)) ↔ (IsIn x (y ∷ xs) × (p x ≡ true))
+    go true e ih = (
+      (λ i. elim i [ inl f ↦ (inl f, ap p f ∙ e) | inr k ↦ (inr (ih.0 k).0, (ih.0 k).1) ]),
+      (λ r. elim r.0 [ inl f ↦ inl f | inr k ↦ inr (ih.1 (k, r.1)) ]),
+    )
+    go false e ih = (
+      (λ i. (inr (ih.0 i).0, (ih.0 i).1)),
+      (λ r. elim r.0 [ inl f ↦ absurd (true≢false (sym r.1 ∙ ap p f ∙ e)) | inr k ↦ ih.1 (k, r.1) ]),
+    )
+
+-- ---- numbers from a place on
+
+pub range_holds : (i n v : ℕ) → i ≤ v → v < i + n → IsIn v (range_with_len i n)
+range_holds i zero v h k = absurd (omega arith)
+range_holds i (suc n) v h k = elim (cases i v h) [ inl e ↦ inl e | inr l ↦ inr (range_holds (i + 1) n v (omega arith) (omega arith)) ]
+  where
+    cases : (a b : ℕ) → a ≤ b → (b ≡ a) ⊎ (a < b)
+    cases a b l = grind arith
+
+pub range_within : (i n v : ℕ) → IsIn v (range_with_len i n) → (i ≤ v) × (v < i + n)
+range_within i zero v k = absurd k
+range_within i (suc n) v (inl e) = (omega arith, omega arith)
+range_within i (suc n) v (inr k) = let r = range_within (i + 1) n v k in (omega (arith, r.0), omega (arith, r.1))

@@ -66,26 +66,3 @@ pub(crate) fn write_amount(value: Frac, out: &mut Vec<u8>) -> Result<(), Memory>
     }
     write_decimals(value, out)
 }
-
-#[cfg(test)]
-mod tests {
-    use super::*;
-    use np_frac::read_amount;
-    use std::test::Fail;
-
-    #[test]
-    fn written(rt: HostRuntime) -> Result<(), Fail> {
-        let rows =
-            "0 0\n12.50 25/2\n-7/21 -1/3\n1/9999999999999999999 1/9999999999999999999\n0.000000001 1/1000000000\n123456789012345678.123456789 123456789012345678.123456789\n-999999999999999999.5 -999999999999999999.500000000\n1000000000.000000001 1000000000.000000001";
-        for row in rows.lines() {
-            let (given, text) = row.split_once(' ').ok_or("no row")?;
-            let value = read_amount(given.as_bytes()).ok_or("no amount")?;
-            let mut out = Vec::from_slice(rt.alloc(), b"x,")?;
-            write_amount(value, &mut out)?;
-            assert!(rt; &out.as_slice()[..2] == b"x,".as_slice());
-            assert!(rt; &out.as_slice()[2..] == text.as_bytes());
-            assert!(rt; read_amount(text.as_bytes()) == Some(value));
-        }
-        Ok(())
-    }
-}

@@ -16,6 +16,3 @@ mod writing;
 pub use reading::read_scheme;
 pub use refused::{Code, Refused, Tail};
 pub use writing::scheme_text;
-
-#[cfg(test)]
-mod tests;

@@ -281,6 +281,3 @@ pub fn scheme_text(alloc: Global, scheme: &Scheme) -> Result<Vec<u8>, Memory>
     text.last()?;
     text.into_bytes()
 }
-
-#[cfg(test)]
-mod tests;

@@ -9,6 +9,3 @@ mod words;
 
 pub use demo_network::demo_scheme;
 pub use top::run;
-
-#[cfg(test)]
-mod tests;

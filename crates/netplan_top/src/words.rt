@@ -10,7 +10,7 @@ ghost use Rattle.netplan_top.specs.declared.words.Job.{Job};
 use np_frac::read_number;
 
 /// How a network is to be solved: by 1 to 16 workers, with a budget of 1 to 1,000,000 pivots, and whether the log is printed.
-#[derive(Clone, Copy, Debug, PartialEq, Eq)]
+#[derive(Clone, Copy, PartialEq, Eq)]
 pub(crate) struct Job {
     pub workers: u32,
     pub budget: u32,
@@ -18,7 +18,7 @@ pub(crate) struct Job {
 }
 
 /// What the program can be asked to say of an input.
-#[derive(Clone, Copy, Debug, PartialEq, Eq)]
+#[derive(Clone, Copy, PartialEq, Eq)]
 pub(crate) enum Command {
     /// A least-cost plan of a network.
     Solve(Job),
@@ -29,7 +29,7 @@ pub(crate) enum Command {
 }
 
 /// The options of `solve` that were taken so far.
-#[derive(Clone, Copy, Debug, PartialEq, Eq)]
+#[derive(Clone, Copy, PartialEq, Eq)]
 pub(crate) struct Given {
     pub workers: Option<u32>,
     pub budget: Option<u32>,

@@ -5,6 +5,7 @@ use Rattle.std.proofs.Common.{refl, ap, ◌∙◌, inl, inr, arith, get_or}
 use Rattle.std.proofs.lemmas.List.{get_or_default}
 use Rattle.std.proofs.lemmas.Slice.Zip.{length-zip, get_or-zip}
 use Rattle.gain_graphs.specs.Arcs.{IsIn, AreDistinct}
+use Rattle.gain_graphs.proofs.Lists.{range_holds, range_within, filter_holds}
 use Rattle.np_frac.specs.Ratio.{Ratio, zero_ratio}
 use Rattle.np_model.specs.declared.arc.NetArc.{NetArc}
 use Rattle.np_model.specs.declared.log.Mark.{Mark}
@@ -14,36 +15,9 @@ use Rattle.np_model.specs.Basis.Graphs.{no_arc, arc_at}
 use Rattle.np_model.specs.Basis.States.{is_basic, basics}
 use Rattle.np_basis.proofs.Ascending.{Ascends, ascends_once}
 
-pub range_holds : (i n v : ℕ) → i ≤ v → v < i + n → IsIn v (range_with_len i n)
-range_holds i zero v h k = absurd (omega arith)
-range_holds i (suc n) v h k = elim (cases i v h) [ inl e ↦ inl e | inr l ↦ inr (range_holds (i + 1) n v (omega arith) (omega arith)) ]
-  where
-    cases : (a b : ℕ) → a ≤ b → (b ≡ a) ⊎ (a < b)
-    cases a b l = grind arith
-
-pub range_within : (i n v : ℕ) → IsIn v (range_with_len i n) → (i ≤ v) × (v < i + n)
-range_within i zero v k = absurd k
-range_within i (suc n) v (inl e) = (omega arith, omega arith)
-range_within i (suc n) v (inr k) = let r = range_within (i + 1) n v k in (omega (arith, r.0), omega (arith, r.1))
-
 pub range_ascends : (i n : ℕ) → Ascends (range_with_len i n)
 range_ascends i zero = record {}
 range_ascends i (suc n) = ((λ v k. let r = range_within (i + 1) n v k in omega (arith, r.0)), range_ascends (i + 1) n)
-
--- what passes a test
-pub filter_holds : (p : ℕ → Bool) (xs : List ℕ) (a : ℕ) → IsIn a (filter p xs) ↔ (IsIn a xs × (p a ≡ true))
-filter_holds p [] a = ((λ i. absurd i), (λ r. absurd r.0))
-filter_holds p (x ∷ xs) a = go (p x) refl (filter_holds p xs a)
-  where
-    go : (b : Bool) → p x ≡ b → (IsIn a (filter p xs) ↔ (IsIn a xs × (p a ≡ true))) → IsIn a (cond b (x ∷ filter p xs) (filter p xs)) ↔ (IsIn a (x ∷ xs) × (p a ≡ true))
-    go true e ih = (
-      (λ i. elim i [ inl q ↦ (inl q, ap p q ∙ e) | inr j ↦ (inr (ih.0 j).0, (ih.0 j).1) ]),
-      (λ r. elim r.0 [ inl q ↦ inl q | inr j ↦ inr (ih.1 (j, r.1)) ]),
-    )
-    go false e ih = (
-      (λ i. (inr (ih.0 i).0, (ih.0 i).1)),
-      (λ r. elim r.0 [ inl q ↦ absurd (let k : p a ≡ false = ap p q ∙ e in let h : p a ≡ true = r.1 in cc) | inr j ↦ ih.1 (j, r.1) ]),
-    )
 
 basic_test : (m : Mark) → (is_basic m ≡ true) ↔ (m ≡ Basic)
 basic_test Lower = ((λ e. absurd cc), (λ e. absurd cc))

@@ -20,7 +20,8 @@ use Rattle.np_model.specs.Basis.Pieces.{PieceLists, nodes_in, basics_in, marked_
 use Rattle.np_model.specs.Basis.States.{Values, basics, IsPart, IsReadOff, IsPieceOf}
 use Rattle.np_basis.specs.Laws.{HasSoundArcs, PieceExists, PieceIsUnique}
 use Rattle.np_basis.proofs.Ascending.{rises, ascends_once, Sorted, sort, same_rising}
-use Rattle.np_basis.proofs.Basics.{range_holds, range_within, range_ascends, decide_basic, basics_hold, basics_once}
+use Rattle.gain_graphs.proofs.Lists.{range_holds, range_within}
+use Rattle.np_basis.proofs.Basics.{range_ascends, decide_basic, basics_hold, basics_once}
 use Rattle.np_basis.proofs.Trees.{is_valid}
 
 -- ---- pieces with the same members

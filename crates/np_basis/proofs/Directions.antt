@@ -34,7 +34,8 @@ use Rattle.np_model.specs.Basis.States.{Values, basics, IsForest}
 use Rattle.np_basis.specs.Laws.{HasSoundArcs}
 use Rattle.np_basis.specs.PivotLaws.{AreInNet, MayEnter, DirectionExists, DirectionIsUnique, WholeDirectionExists, WholeDirectionIsUnique}
 use Rattle.np_basis.proofs.Ascending.{ascends, ascends_once}
-use Rattle.np_basis.proofs.Basics.{range_holds, range_within, range_ascends, basics_hold, basics_once}
+use Rattle.gain_graphs.proofs.Lists.{range_holds, range_within}
+use Rattle.np_basis.proofs.Basics.{range_ascends, basics_hold, basics_once}
 use Rattle.np_basis.proofs.Trees as trees
 use Rattle.np_basis.proofs.Trees.{is_valid, coefficient_is, total_is}
 

@@ -7,7 +7,8 @@ use Rattle.gain_graphs.proofs.Algebra as algebra
 use Rattle.gain_graphs.proofs.Examples as graph_examples
 use Rattle.np_frac.specs.Fits.{Fits}
 use Rattle.np_frac.specs.Ratio.{Ratio, zero_ratio, one_ratio, ◌+ᵣ◌, ◌<ᵣ◌, whole}
-use Rattle.np_frac.proofs.RatioLaws.{+ᵣ-zero, clash, ≤ᵣ_same, is_below_true}
+use Rattle.np_frac.proofs.Field.{one_above}
+use Rattle.np_frac.proofs.RatioLaws.{+ᵣ-zero, clash, ≤ᵣ_same}
 use Rattle.np_model.specs.declared.arc.Ends.{Ends}
 use Rattle.np_model.specs.Network.Nets.{IsSoundArc}
 use Rattle.np_model.specs.Basis.Graphs.{ratios, graph_of, ends_at}
@@ -25,10 +26,6 @@ pub state_example : StateExample
 state_example supply fit = start_is_state (node_alone supply) (λ k other below. absurd (omega arith)) (λ v below. subst Fits (sym (residual_alone supply v below)) fit)
 
 -- ---- two links
-
-one_above : zero_ratio <ᵣ one_ratio
-unfolding whole
-one_above = is_below_true zero_ratio one_ratio refl
 
 link_sound : (gain : Ratio) → zero_ratio <ᵣ gain → IsSoundArc 2 (link_of gain)
 link_sound gain above = record { joins = (omega arith, omega arith, λ e. absurd (omega (arith, e))); gain = above; bounds = record {} }

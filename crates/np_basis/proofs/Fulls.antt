@@ -1,19 +1,20 @@
 -- A full network is valid in each phase; and the price of an arc is its reduced cost.
-use Rattle.std.specs.Prelude.{◌≡◌, ◌⊎◌, ℕ, ◌+◌, ◌-◌, ◌<◌, ◌≤◌, List, map, length, slice_index_or}
-use Rattle.std.proofs.Common.{sym, ap₂, subst, ◌∙◌, inl, inr, arith}
+use Rattle.std.specs.Prelude.{◌≡◌, ◌⊎◌, ℕ, zero, suc, ◌+◌, ◌-◌, ◌<◌, ◌≤◌, List, [], ◌∷◌, map, length, slice_index_or}
+use Rattle.std.proofs.Common.{refl, sym, ap₂, subst, ◌∙◌, inl, inr, arith}
 use Rattle.std.proofs.lemmas.List.{length-append, get_or_default, length-map}
 use Rattle.np_frac.specs.Ratio.{zero_ratio}
 use Rattle.np_frac.proofs.RatioLaws.{≤ᵣ_refl}
 use Rattle.np_model.specs.declared.arc.Ends.{Ends}
 use Rattle.np_model.specs.declared.arc.Ends.TheVariants.{Link, Drain, Feed}
 use Rattle.np_model.specs.declared.arc.NetArc.{NetArc}
+use Rattle.np_model.specs.declared.network.FullNet.{FullNet}
 use Rattle.np_model.specs.declared.phase.Phase.{Phase}
 use Rattle.np_model.specs.declared.phase.Phase.TheVariants.{One, Two}
 use Rattle.np_model.specs.Network.Arcs.{AreNodes}
 use Rattle.np_model.specs.Network.Nets.{IsSoundArc}
 use Rattle.np_model.specs.Basis.Artificial.{IsOneEndAt}
 use Rattle.np_model.specs.Basis.Graphs.{no_arc, arc_at, ends_at, cost_at}
-use Rattle.np_model.specs.Basis.Phases.{real_arc, artificial_arc, phase_arcs}
+use Rattle.np_model.specs.Basis.Phases.{real_arc, artificial_arc, phase_arcs, phase_net}
 use Rattle.np_model.proofs.FullNets.{real_at, artificial_at}
 use Rattle.np_model.proofs.Pull.{reduced_by_ends}
 use Rattle.np_basis.specs.Laws.{FullIsSound, FullNetIsSound, PriceIsReduced}
@@ -21,6 +22,31 @@ use Rattle.np_basis.specs.Laws.{FullIsSound, FullNetIsSound, PriceIsReduced}
 pub length_full : (phase : Phase) (arcs : List NetArc) (artificial : List Ends) → length (phase_arcs phase arcs artificial) ≡ length arcs + length artificial
 length_full phase arcs artificial =
     length-append (map (real_arc phase) arcs) (map (artificial_arc phase) artificial) ∙ ap₂ (λ x y. x + y) (length-map arcs (real_arc phase)) (length-map artificial (artificial_arc phase))
+
+-- ---- the ends of an arc are the same in both phases
+
+real_ends : (phase : Phase) (a : NetArc) → (real_arc One a).ends ≡ (real_arc phase a).ends
+real_ends One a = refl
+real_ends Two a = refl
+
+artificial_ends : (phase : Phase) (e : Ends) → (artificial_arc One e).ends ≡ (artificial_arc phase e).ends
+artificial_ends One e = refl
+artificial_ends Two e = refl
+
+same_artificial : (phase : Phase) (es : List Ends) (a : ℕ) → ends_at (map (artificial_arc One) es) a ≡ ends_at (map (artificial_arc phase) es) a
+same_artificial phase [] a = refl
+same_artificial phase (e ∷ es) zero = artificial_ends phase e
+same_artificial phase (e ∷ es) (suc a) = same_artificial phase es a
+
+same_arcs : (phase : Phase) (arcs : List NetArc) (es : List Ends) (a : ℕ) → ends_at (phase_arcs One arcs es) a ≡ ends_at (phase_arcs phase arcs es) a
+same_arcs phase [] es a = same_artificial phase es a
+same_arcs phase (x ∷ arcs) es zero = real_ends phase x
+same_arcs phase (x ∷ arcs) es (suc a) = same_arcs phase arcs es a
+
+pub ends_same : (phase : Phase) (full : FullNet) (a : ℕ) → ends_at (phase_net One full).arcs a ≡ ends_at (phase_net phase full).arcs a
+ends_same phase full a = same_arcs phase full.net.arcs full.artificial a
+
+-- ---- each arc is sound
 
 real_sound : (n : ℕ) (phase : Phase) (a : NetArc) → IsSoundArc n a → IsSoundArc n (real_arc phase a)
 real_sound n One a h = record { joins = h.joins; gain = h.gain; bounds = h.bounds }

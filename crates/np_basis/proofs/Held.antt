@@ -22,7 +22,8 @@ use Rattle.np_basis.specs.Laws.{HasSoundArcs}
 use Rattle.np_basis.specs.PivotLaws.{AreInNet, MayEnter, IsDirectionIn, ArePiecesOf, IsLocal, DirectionIsLocal}
 use Rattle.np_model.specs.Basis.Needed.{IsDirectionOf}
 use Rattle.np_basis.proofs.Ascending.{ascends_once}
-use Rattle.np_basis.proofs.Basics.{range_holds, range_within, range_ascends, basics_hold}
+use Rattle.gain_graphs.proofs.Lists.{range_holds, range_within}
+use Rattle.np_basis.proofs.Basics.{range_ascends, basics_hold}
 use Rattle.np_basis.proofs.Directions as directions
 use Rattle.np_basis.proofs.Directions.{only_on, only_on_in, only_on_out}
 use Rattle.np_basis.proofs.Reading.{in_flat, in_flat_of, touches_flat, pieces_are_sound}

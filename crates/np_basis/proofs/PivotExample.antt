@@ -10,8 +10,8 @@ use Rattle.gain_graphs.proofs.Algebra as algebra
 use Rattle.gain_graphs.proofs.Examples as graph_examples
 use Rattle.np_frac.specs.Fits.{Fits}
 use Rattle.np_frac.specs.Ratio.{Ratio, zero_ratio, one_ratio, negated, whole, ◌≤ᵣ◌, ◌<ᵣ◌, ◌+ᵣ◌, ◌*ᵣ◌}
-use Rattle.np_frac.proofs.RatioLaws.{+ᵣ-zero, zero-+ᵣ, +ᵣ_assoc, one-*ᵣ, ≤ᵣ_refl, <ᵣ_is_≤ᵣ, +ᵣ_at_most_left, clash, ≤ᵣ_same, is_below_true}
-use Rattle.np_frac.proofs.Field.{+ᵣ-negated, *ᵣ-one}
+use Rattle.np_frac.proofs.RatioLaws.{+ᵣ-zero, zero-+ᵣ, +ᵣ_assoc, one-*ᵣ, ≤ᵣ_refl, <ᵣ_is_≤ᵣ, +ᵣ_at_most_left, clash, ≤ᵣ_same}
+use Rattle.np_frac.proofs.Field.{+ᵣ-negated, *ᵣ-one, one_above, negated_one_below}
 use Rattle.np_model.specs.declared.log.Mark.{Mark}
 use Rattle.np_model.specs.declared.log.Mark.TheVariants as marked
 use Rattle.np_model.specs.declared.log.Entry.{Entry}
@@ -43,14 +43,6 @@ one_fits = record { num_fits = omega arith; den_fits = omega arith }
 zero_fits : Fits zero_ratio
 unfolding whole
 zero_fits = record { num_fits = omega arith; den_fits = omega arith }
-
-one_above : zero_ratio <ᵣ one_ratio
-unfolding whole
-one_above = is_below_true zero_ratio one_ratio refl
-
-negated_below : negated one_ratio <ᵣ zero_ratio
-unfolding whole negated
-negated_below = is_below_true (negated one_ratio) zero_ratio refl
 
 -- ---- states in which one of the drains is basic
 
@@ -167,7 +159,7 @@ has_pivot = record {
   ground = sound;
   state = dear_state;
   pivot = record {
-    eligible = record { is_open = (omega arith, record {}); gains = subst (λ t. t <ᵣ zero_ratio) (sym (zero-+ᵣ (negated one_ratio))) negated_below };
+    eligible = record { is_open = (omega arith, record {}); gains = subst (λ t. t <ᵣ zero_ratio) (sym (zero-+ᵣ (negated one_ratio))) negated_one_below };
     direction = d;
     step = one_ratio;
     move = record {
@@ -188,7 +180,7 @@ has_pivot = record {
       ];
       greatest = λ z k. at_most_one z (k 1 (inr (inl refl))).0;
       leaves = inr (inl refl);
-      stops = record { moves = λ e. clash negated_below (≤ᵣ_same (sym e)); towards = <ᵣ_is_≤ᵣ negated_below; rests = back };
+      stops = record { moves = λ e. clash negated_one_below (≤ᵣ_same (sym e)); towards = <ᵣ_is_≤ᵣ negated_one_below; rests = back };
       first = λ a m i k. elim i [
         | inl e ↦ absurd (free m (subst (λ c. Stops two_drains (values_of by_dear) d one_ratio c m) e k))
         | inr j ↦ elim j [ inl e ↦ inr ((λ f. let g : 0 ≡ 1 = sym f ∙ e in absurd (omega arith)), (let g : a ≡ 1 = e in omega arith)) | inr x ↦ absurd x ]

@@ -13,7 +13,7 @@ use Rattle.gain_graphs.proofs.Pieces as graph_pieces
 use Rattle.gain_graphs.proofs.Selected.{upto, upto_below}
 use Rattle.gain_graphs.proofs.Sums as graph_sums
 use Rattle.np_frac.specs.Ratio.{Ratio, zero_ratio, ◌≤ᵣ◌, ◌<ᵣ◌, ◌*ᵣ◌}
-use Rattle.np_frac.proofs.Field.{*ᵣ-one}
+use Rattle.np_frac.proofs.Field.{*ᵣ-one, negated_one_below}
 use Rattle.np_frac.proofs.RatioLaws.{*ᵣ-zero, below_or}
 use Rattle.np_model.specs.declared.arc.Upper.{Upper}
 use Rattle.np_model.specs.declared.arc.Upper.TheVariants.{Finite, Infinite}
@@ -34,7 +34,6 @@ use Rattle.np_basis.proofs.Costs as costs
 use Rattle.np_basis.proofs.Directions as directions
 use Rattle.np_basis.proofs.Held.{arc_below, node_number}
 use Rattle.np_basis.proofs.Pivoting.{not_gaining}
-use Rattle.np_basis.proofs.StageOne.{negated_below}
 use Rattle.np_basis.proofs.Trees.{total_is}
 
 -- an upper bound that is not there
@@ -97,7 +96,7 @@ module _ (net : Network) (real : ℕ) (ground : HasRealArcs net real) (s : State
       go marked.Lower e k = subst (λ t. t <ᵣ zero_ratio)
           (sym (ap (λ t. price (values_of s).potential (arc_at net.arcs enter) *ᵣ t) (h.enters ∙ ap sign e) ∙ *ᵣ-one (price (values_of s).potential (arc_at net.arcs enter))))
           (subst (λ m. Gains m (price (values_of s).potential (arc_at net.arcs enter))) e k)
-      go marked.Upper e k = absurd (no_end enter below (inl (subst (λ t. t <ᵣ zero_ratio) (sym (h.enters ∙ ap sign e)) negated_below)))
+      go marked.Upper e k = absurd (no_end enter below (inl (subst (λ t. t <ᵣ zero_ratio) (sym (h.enters ∙ ap sign e)) negated_one_below)))
       go marked.Basic e k = absurd (not_gaining ((values_of s).mark enter) _ k e)
 
   is_ray : Ray net s.flows (map d (arc_numbers net))

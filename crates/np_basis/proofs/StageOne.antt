@@ -4,8 +4,8 @@ use Rattle.std.proofs.Common.{refl, sym, ap, subst, ◌∙◌, inl, inr, arith}
 use Rattle.gain_graphs.specs.Arcs.{IsIn}
 use Rattle.gain_graphs.specs.Field as field
 use Rattle.np_frac.specs.Ratio.{Ratio, zero_ratio, one_ratio, negated, whole, ◌≤ᵣ◌, ◌<ᵣ◌, ◌+ᵣ◌, ◌*ᵣ◌}
-use Rattle.np_frac.proofs.Field.{*ᵣ-one}
-use Rattle.np_frac.proofs.RatioLaws.{+ᵣ-zero, *ᵣ-zero, ≤ᵣ_refl, ≤ᵣ_same, <ᵣ_is_≤ᵣ, below_or, clash, enough, +ᵣ_at_most, *ᵣ_at_most, is_below_true}
+use Rattle.np_frac.proofs.Field.{*ᵣ-one, one_above, negated_one_below}
+use Rattle.np_frac.proofs.RatioLaws.{+ᵣ-zero, *ᵣ-zero, ≤ᵣ_refl, ≤ᵣ_same, <ᵣ_is_≤ᵣ, below_or, clash, enough, +ᵣ_at_most, *ᵣ_at_most}
 use Rattle.np_model.specs.declared.arc.NetArc.{NetArc}
 use Rattle.np_model.specs.declared.log.Mark.{Mark}
 use Rattle.np_model.specs.declared.log.Mark.TheVariants as marked
@@ -45,10 +45,6 @@ search d (b ∷ numbers) = go (below_or (d b) zero_ratio) (search d numbers)
 not_negative : (f : ℕ → Ratio) (xs : List ℕ) → ((x : ℕ) → IsIn x xs → zero_ratio ≤ᵣ f x) → zero_ratio ≤ᵣ field.total ratios f xs
 not_negative f [] h = ≤ᵣ_refl zero_ratio
 not_negative f (x ∷ xs) h = subst (λ t. t ≤ᵣ f x +ᵣ field.total ratios f xs) (+ᵣ-zero zero_ratio) (+ᵣ_at_most (h x (inl refl)) (not_negative f xs (λ y i. h y (inr i))))
-
-pub negated_below : negated one_ratio <ᵣ zero_ratio
-unfolding whole negated
-negated_below = is_below_true (negated one_ratio) zero_ratio refl
 
 all : (net : Network) (ps : List PieceLists) → AreSound net ps → AreInNet net ps
 all net ps sound = record { each = λ o i. (sound.each o i).in_net; apart = sound.apart }
@@ -96,7 +92,7 @@ module _ (net : Network) (real : ℕ) (ps : List PieceLists) (enter : ℕ) (d : 
         where
           same : worth ≡ worth *ᵣ d enter
           same = sym (ap (λ t. worth *ᵣ t) (h.enters ∙ ap sign e) ∙ *ᵣ-one worth)
-      go marked.Upper e k = clash negated_below (subst (λ t. zero_ratio ≤ᵣ t) (h.enters ∙ ap sign e) (rises enter (inl refl)))
+      go marked.Upper e k = clash negated_one_below (subst (λ t. zero_ratio ≤ᵣ t) (h.enters ∙ ap sign e) (rises enter (inl refl)))
       go marked.Basic e k = not_gaining ((values_in net ps).mark enter) _ k e
 
   comes : ComesToBound net (values_in net ps) (enter ∷ basics_of ps) d
@@ -111,10 +107,6 @@ pub no_ray_at_nonnegative_costs : NoRayAtNonnegativeCosts
 no_ray_at_nonnegative_costs net real ps enter d ground cheap sound into eligible h = comes net real ps enter d ground cheap sound into eligible h
 
 -- ---- stage one
-
-one_above : zero_ratio <ᵣ one_ratio
-unfolding whole
-one_above = is_below_true zero_ratio one_ratio refl
 
 cheap_in_one : (full : FullNet) (a : ℕ) → a < length (phase_net One full).arcs → zero_ratio ≤ᵣ cost_at (phase_net One full).arcs a
 cheap_in_one full a l = elim (cases a (length full.net.arcs)) [

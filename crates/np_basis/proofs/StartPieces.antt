@@ -20,7 +20,8 @@ use Rattle.np_model.specs.Basis.States.{values_of, IsReadOff}
 use Rattle.np_model.specs.Basis.Starts.{start_state, start_net, start_piece, touches}
 use Rattle.np_basis.specs.Laws.{StartPieceHasShape, StartPieceIsPiece}
 use Rattle.np_basis.proofs.Ascending.{rises, one_rises}
-use Rattle.np_basis.proofs.Basics.{range_holds, range_within, range_ascends, filter_holds}
+use Rattle.gain_graphs.proofs.Lists.{range_holds, range_within, filter_holds}
+use Rattle.np_basis.proofs.Basics.{range_ascends}
 use Rattle.np_basis.proofs.Starting as start
 
 -- the numbers of the marks

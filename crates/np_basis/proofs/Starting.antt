@@ -39,7 +39,8 @@ use Rattle.np_model.proofs.FullNets as full_nets
 use Rattle.np_model.proofs.Coefficients.{drain_at, drain_off, feed_at, feed_off}
 use Rattle.np_basis.specs.Laws.{HasSoundArcs, StartIsArtificial, StartIsState, StartIsSingles, SingleIsPart}
 use Rattle.np_basis.proofs.Ascending.{ascends_once, one_rises}
-use Rattle.np_basis.proofs.Basics.{range_holds, range_ascends, basics_hold, zipped}
+use Rattle.gain_graphs.proofs.Lists.{range_holds}
+use Rattle.np_basis.proofs.Basics.{range_ascends, basics_hold, zipped}
 use Rattle.np_basis.proofs.Fulls.{length_full}
 use Rattle.np_basis.proofs.Trees.{total_is}
 

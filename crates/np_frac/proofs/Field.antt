@@ -1,6 +1,7 @@
 -- Ratios are an ordered field with a decidable equality.
-use Rattle.std.specs.Prelude.{◌≡◌, ◌≢◌, ℕ, zero, suc, max, ◌+◌, ◌-◌, ◌*◌, ◌<◌, Bool, true, false, ℤ, pos, negsuc, neg_ℤ, ◌+ℤ◌, ◌*ℤ◌}
+use Rattle.std.specs.Prelude.{◌≡◌, ◌≢◌, ℕ, zero, suc, max, ◌+◌, ◌-◌, ◌*◌, ◌<◌, Bool, true, false, ℤ, pos, negsuc, neg_ℤ, ◌+ℤ◌, ◌*ℤ◌, ◌<ℤ◌, ◌≤ℤ◌}
 use Rattle.std.proofs.Common.{inl, inr, arith, ap, refl, sym, subst, ◌∙◌}
+use Rattle.std.proofs.lemmas.Int.{ints}
 use Rattle.std.proofs.Math.Nat.{le-max_left, mul-lt-mul_of_pos_left}
 use borrow.Author.Differences.{product_is, neg_is, same_in}
 use Rattle.np_frac.specs.Ratio.{◌≤ᵣ◌, sum_is, Ratio, IsLowest, made, over, over_num, inverse, whole, is_below, negated, zero_ratio, one_ratio, ◌<ᵣ◌, ◌+ᵣ◌, ◌*ᵣ◌}
@@ -69,11 +70,24 @@ pub *ᵣ_above : {a b : Ratio} → zero_ratio <ᵣ a → zero_ratio <ᵣ b → z
 
 -- ---- quotients and the order
 
-above-apart : {a : Ratio} → zero_ratio <ᵣ a → a ≢ zero_ratio
+pub above-apart : {a : Ratio} → zero_ratio <ᵣ a → a ≢ zero_ratio
 above-apart h e = clash h (≤ᵣ_same e)
 
-one_above : zero_ratio <ᵣ one_ratio
-one_above = rw (nothing_is, unit_is) (below nothing unit (omega arith))
+-- a whole number above 0, and one not below it
+pub whole_above : (x : ℤ) → pos 0 <ℤ x → zero_ratio <ᵣ whole x
+unfolding whole
+whole_above x h = record { cross = omega (arith, ints) }
+
+pub whole_at_least : (x : ℤ) → pos 0 ≤ℤ x → zero_ratio ≤ᵣ whole x
+unfolding whole
+whole_at_least x h = record { cross = omega (arith, ints) }
+
+pub one_above : zero_ratio <ᵣ one_ratio
+one_above = whole_above (pos 1) (omega (arith, ints))
+
+pub negated_one_below : negated one_ratio <ᵣ zero_ratio
+unfolding whole negated
+negated_one_below = is_below_true (negated one_ratio) zero_ratio refl
 
 pub inverse_above : {a : Ratio} → zero_ratio <ᵣ a → zero_ratio <ᵣ inverse a
 inverse_above {a} h =

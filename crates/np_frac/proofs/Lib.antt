@@ -6,6 +6,7 @@ pub mod Field
 pub mod Fractions
 pub mod SumParts
 pub mod Exactness
+pub mod Results
 pub mod Folds
 pub mod Running
 pub mod Amounts

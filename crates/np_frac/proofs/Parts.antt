@@ -1,5 +1,5 @@
 -- A ratio, written as a difference of naturals over a natural. On these the operations are polynomials, which `omega arith` reads.
-use Rattle.std.specs.Prelude.{◌≡◌, ℕ, ◌+◌, ◌*◌, ◌≤◌, ◌<◌, ℤ, pos, ◌*ℤ◌}
+use Rattle.std.specs.Prelude.{◌≡◌, ◌≢◌, ℕ, ◌+◌, ◌*◌, ◌≤◌, ◌<◌, ℤ, pos, ◌*ℤ◌}
 use Rattle.std.proofs.Common.{arith, ap, sym, ◌∙◌, subst}
 use Rattle.std.proofs.Math.Nat.{mul-pos, le_refl, mul-le-mul_left, mul-lt-mul_of_pos_left, le_of_mul-le-mul_left, lt_of_mul-lt-mul_left, eq_of_mul-eq-mul_left}
 use borrow.Author.Differences.{up, down, neg_is}
@@ -193,3 +193,8 @@ by4 P f a b c d = by1 (λ r. P r b c d) (λ x. by3 (P (ratio x)) (f x) b c d) a
 
 pub by6 : (P : Ratio → Ratio → Ratio → Ratio → Ratio → Ratio → Type 0) → ((x y z w u v : Parts) → P (ratio x) (ratio y) (ratio z) (ratio w) (ratio u) (ratio v)) → (a b c d e f : Ratio) → P a b c d e f
 by6 P g a b c d e f = by2 (λ r s. P r s c d e f) (λ x y. by4 (P (ratio x) (ratio y)) (g x y) c d e f) a b
+
+-- what is not 0 has a numerator that is not 0
+pub num_apart : (r : Ratio) → r ≢ zero_ratio → r.num ≢ pos 0
+unfolding whole
+num_apart r n e = n (same_parts r zero_ratio (rw e (omega arith)))

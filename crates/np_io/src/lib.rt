@@ -20,8 +20,6 @@ mod stdin_source;
 mod stdout_sink;
 mod sure_sink;
 mod sure_source;
-#[cfg(test)]
-mod tests;
 mod write;
 
 pub use mem_sink::MemSink;

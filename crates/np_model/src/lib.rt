@@ -21,7 +21,9 @@ mod valid;
 
 pub use arc::{Ends, NetArc, Upper};
 pub use gate::{Gate, OpenGate, Spot};
-pub use lists::{Bands, EndsList, Entries, Flows, Fracs, Marks, Name, Names, NetArcs, Nums, Steps};
+pub use lists::{
+    Bands, EndsList, Entries, Flows, Fracs, Marks, Name, Names, NetArcs, Nums, Steps, zeros,
+};
 pub use log::{Entry, Log, Mark};
 pub use network::{FullNet, Net, StartBasis};
 pub use outcome::Outcome;

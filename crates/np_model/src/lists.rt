@@ -1,11 +1,14 @@
 //! The list types: each is its `Vec`, and a contract sees the list of its elements.
 
-ghost use Rattle.std.specs.Prelude.{◌≡◌};
+ghost use Rattle.std.specs.Prelude.{◌≡◌, ◌<◌, ℕ, length, IfOk};
+ghost use Rattle.np_frac.specs.Ratio.{zero_ratio};
+ghost use Rattle.np_model.specs.Network.Flows.{at};
 
 use crate::arc::{Ends, NetArc};
 use crate::log::{Entry, Mark};
 use crate::scheme::{Band, Flow};
-use np_frac::Frac;
+use np_frac::{Frac, Memory};
+use std::alloc::Global;
 use std::marker::Model;
 
 /// Fractions in order: one a node, one an arc, as the field that holds them says.
@@ -30,6 +33,18 @@ impl Fracs {
     {
         self.items.as_slice()
     }
+}
+
+/// So many fractions, each 0: what amounts, sums and potentials start from.
+pub fn zeros(alloc: Global, count: usize) -> Result<Vec<Frac>, Memory>
+    ensures long { IfOk result (λ list. length list.items ≡ count) }
+    ensures zeros { IfOk result (λ list. (i : ℕ) → i < count → at list.items i ≡ zero_ratio) }
+{
+    let mut list = Vec::with_capacity(alloc, count)?;
+    for _ in 0..count {
+        list.push(Frac::whole(0))?;
+    }
+    Ok(list)
 }
 
 /// The bytes of one name.

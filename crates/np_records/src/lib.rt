@@ -18,6 +18,3 @@ pub use fields::{is_kind, period, whole};
 pub use names::NameTable;
 pub use reading::{Records, field};
 pub use writing::Text;
-
-#[cfg(test)]
-mod tests;

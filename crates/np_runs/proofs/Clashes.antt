@@ -26,7 +26,7 @@ use Rattle.np_basis.proofs.Trees.{lies}
 use Rattle.np_runs.specs.Runs.{PivotsLead, RunLeads}
 use Rattle.np_runs.specs.Ended.{HasRun, TurnOverflows}
 use Rattle.np_runs.proofs.Following.{Theory, in_one_piece, start_is, lead_state, lead_unique}
-use Rattle.np_runs.proofs.Results.{is_ok_of, err_not_ok, ok_is, same_ok}
+use Rattle.np_frac.proofs.Results.{is_ok_of, err_not_ok, ok_is, same_ok}
 use Rattle.np_runs.proofs.Stages.{pieces_stay, in_net_stays}
 
 -- ---- potentials

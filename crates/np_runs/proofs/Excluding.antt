@@ -15,7 +15,7 @@ use Rattle.np_runs.specs.Ended.{residual_at, PricesFit, MayEnterIn, NoneMayEnter
 use Rattle.np_runs.specs.Verdicts.{SuppliesFit, StartGivesResiduals, RayIsEndless, RaysExcludeOverflows, VerdictsExclude, log_of, verdict_of}
 use Rattle.np_runs.proofs.Clashes.{turn_not}
 use Rattle.np_runs.proofs.Following.{Theory, ground}
-use Rattle.np_runs.proofs.Results.{err_not_ok}
+use Rattle.np_frac.proofs.Results.{err_not_ok}
 
 -- what is known of starts, runs, bases and directions
 pub record Given : Type 0 where

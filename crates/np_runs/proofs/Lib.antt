@@ -7,7 +7,6 @@ pub mod Slack
 pub mod Certificates
 pub mod Attempts
 pub mod Outcomes
-pub mod Results
 pub mod Stages
 pub mod Directed
 pub mod Clashes

@@ -7,6 +7,3 @@ mod staged;
 
 pub use expand::{Expanded, expand_periods};
 pub use staged::{Staged, Stageds};
-
-#[cfg(test)]
-mod tests;

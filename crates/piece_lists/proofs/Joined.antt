@@ -3,7 +3,7 @@ use Rattle.std.specs.Prelude.{◌≡◌, ◌≢◌, ◌⊎◌, ◌↔◌, ◌==�
 use Rattle.std.specs.List.Sorted.{IsStrictlyIncreasing}
 use Rattle.std.proofs.Common.{refl, sym, ap, ap₂, subst, ◌∙◌, inl, inr, arith, eqb, true≢false}
 use Rattle.gain_graphs.specs.Arcs.{IsIn}
-use Rattle.gain_graphs.proofs.Lists.{in_map, in_map_of, in_append, in_front, in_back}
+use Rattle.gain_graphs.proofs.Lists.{in_map, in_map_of, in_append, in_front, in_back, filter_holds}
 use Rattle.np_basis.proofs.Ascending.{Ascends, ascends, rises}
 use Rattle.np_frac.specs.Ratio.{Ratio}
 use Rattle.np_model.specs.declared.arc.Ends.{Ends}
@@ -14,26 +14,12 @@ use Rattle.piece_lists.specs.Joining.{AreInOne, AreMarksAfter}
 
 -- ---- filters
 
-pub filter_in : {T : Type 0} (p : T → Bool) (xs : List T) (x : T) → IsIn x (filter p xs) ↔ (IsIn x xs × (p x ≡ true))
-filter_in p [] x = ((λ i. absurd i), (λ r. absurd r.0))
-filter_in {T} p (y ∷ xs) x = go (p y) refl (filter_in p xs x)
-  where
-    go : (b : Bool) → p y ≡ b → (IsIn x (filter p xs) ↔ (IsIn x xs × (p x ≡ true))) → IsIn x (cond b (y ∷ filter p xs) (filter p xs)) ↔ (IsIn x (y ∷ xs) × (p x ≡ true))
-    go true e ih = (
-      (λ i. elim i [ inl f ↦ (inl f, ap p f ∙ e) | inr k ↦ (inr (ih.0 k).0, (ih.0 k).1) ]),
-      (λ r. elim r.0 [ inl f ↦ inl f | inr k ↦ inr (ih.1 (k, r.1)) ]),
-    )
-    go false e ih = (
-      (λ i. (inr (ih.0 i).0, (ih.0 i).1)),
-      (λ r. elim r.0 [ inl f ↦ absurd (true≢false (sym r.1 ∙ ap p f ∙ e)) | inr k ↦ ih.1 (k, r.1) ]),
-    )
-
 filter_ascends : {T : Type 0} (key : T → ℕ) (p : T → Bool) (xs : List T) → Ascends (map key xs) → Ascends (map key (filter p xs))
 filter_ascends key p [] a = record {}
 filter_ascends {T} key p (y ∷ xs) a = go (p y) (filter_ascends key p xs a.1)
   where
     go : (b : Bool) → Ascends (map key (filter p xs)) → Ascends (map key (cond b (y ∷ filter p xs) (filter p xs)))
-    go true ih = ((λ u i. let r = in_map_of key u (filter p xs) i in a.0 u (subst (λ t. IsIn t (map key xs)) (sym r.2) (in_map key r.0 xs ((filter_in p xs r.0).0 r.1).0))), ih)
+    go true ih = ((λ u i. let r = in_map_of key u (filter p xs) i in a.0 u (subst (λ t. IsIn t (map key xs)) (sym r.2) (in_map key r.0 xs ((filter_holds p xs r.0).0 r.1).0))), ih)
     go false ih = ih
 
 pub filter_rises : {T : Type 0} (key : T → ℕ) (p : T → Bool) (xs : List T) → IsStrictlyIncreasing (map key xs) → IsStrictlyIncreasing (map key (filter p xs))
@@ -73,12 +59,12 @@ marked_is marks rest list enter leave leave_at fresh e g = record {
   ascend = g.ascend;
   are = λ m. (
     (λ i. elim ((g.are m).0 i) [
-      | inl k ↦ (let r = (filter_in (λ x. not (x.0 == enter)) marks m).0 (subst (λ x. IsIn m x) e k) in inr (r.0, not_same m.0 enter r.1, fresh m r.0 (not_same m.0 enter r.1)))
+      | inl k ↦ (let r = (filter_holds (λ x. not (x.0 == enter)) marks m).0 (subst (λ x. IsIn m x) e k) in inr (r.0, not_same m.0 enter r.1, fresh m r.0 (not_same m.0 enter r.1)))
       | inr k ↦ elim k [ inl f ↦ inl (ap (λ (x : ℕ × Mark). x.0) f, ap (λ (x : ℕ × Mark). x.1) f) | inr z ↦ absurd z ]
     ]),
     (λ i. (g.are m).1 (elim i [
       | inl r ↦ inr (inl (ap₂ (λ (a : ℕ) (k : Mark). pair a k) r.0 r.1))
-      | inr r ↦ inl (subst (λ x. IsIn m x) (sym e) ((filter_in (λ x. not (x.0 == enter)) marks m).1 (r.0, same_not m.0 enter r.1)))
+      | inr r ↦ inl (subst (λ x. IsIn m x) (sym e) ((filter_holds (λ x. not (x.0 == enter)) marks m).1 (r.0, same_not m.0 enter r.1)))
     ])),
   );
 }
@@ -89,7 +75,7 @@ marked_is marks rest list enter leave leave_at fresh e g = record {
 pub new_mark_same : (marks rest : List (ℕ × Mark)) (enter leave : ℕ) (leave_at : Mark) → ((m : ℕ × Mark) → IsIn m marks → m.0 ≢ enter → m.0 ≢ leave) → rest ≡ filter (λ x. not (x.0 == enter)) marks
     → (x y : ℕ × Mark) → IsIn x rest → IsIn y ((leave, leave_at) ∷ []) → x.0 ≡ y.0 → x ≡ y
 new_mark_same marks rest enter leave leave_at fresh e x y i j h = elim j [
-  | inl f ↦ (let r = (filter_in (λ x. not (x.0 == enter)) marks x).0 (subst (λ t. IsIn x t) e i) in absurd (fresh x r.0 (not_same x.0 enter r.1) (h ∙ ap (λ (t : ℕ × Mark). t.0) f)))
+  | inl f ↦ (let r = (filter_holds (λ x. not (x.0 == enter)) marks x).0 (subst (λ t. IsIn x t) e i) in absurd (fresh x r.0 (not_same x.0 enter r.1) (h ∙ ap (λ (t : ℕ × Mark). t.0) f)))
   | inr z ↦ absurd z
 ]
 

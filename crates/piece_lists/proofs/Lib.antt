@@ -5,4 +5,3 @@ pub mod Splitting
 pub mod Joined
 pub mod Walking
 pub mod Swapped
-pub mod SmallPieces

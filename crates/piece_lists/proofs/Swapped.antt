@@ -13,7 +13,8 @@ use Rattle.piece_lists.specs.declared.flowing.FlowRefusal.TheVariants as refusal
 use Rattle.piece_lists.specs.Merged.{IsMerged}
 use Rattle.piece_lists.specs.Flowing.{IsMoved, AreFlowsOf, AreFlowsAfter, IsFirstPast}
 use Rattle.piece_lists.specs.Steps.{AreMoved}
-use Rattle.piece_lists.proofs.Joined.{filter_in, filter_rises}
+use Rattle.gain_graphs.proofs.Lists.{filter_holds}
+use Rattle.piece_lists.proofs.Joined.{filter_rises}
 
 abbrev number : ℕ × Ends × Ratio → ℕ
 number b = b.0
@@ -76,14 +77,14 @@ module _ (basics all : List (ℕ × Ends × Ratio)) (entering : ℕ × Ends × R
           let b = in_map_of number a (entering ∷ basics) s.0 in
           let c = zip_left (IsMoved steps t) all moved w.each b.0 ((with_entering b.0).1 b.1) in
           let is : c.0.0 ≡ a = c.2.number ∙ sym b.2 in
-          subst (λ x. IsIn x (numbers_of_arcs rest)) is (in_map number c.0 rest (subst (λ x. IsIn c.0 x) (sym e) ((filter_in (λ x. not (x.0 == leave)) moved c.0).1 (c.1, same_not c.0.0 leave (λ f. s.1 (sym is ∙ f))))))),
+          subst (λ x. IsIn x (numbers_of_arcs rest)) is (in_map number c.0 rest (subst (λ x. IsIn c.0 x) (sym e) ((filter_holds (λ x. not (x.0 == leave)) moved c.0).1 (c.1, same_not c.0.0 leave (λ f. s.1 (sym is ∙ f))))))),
     );
     moved = λ c i. let b = zip_right (IsMoved steps t) all moved w.each c (kept c i).0 in (b.0, (with_entering b.0).0 b.1, b.2);
     fit = λ flow f. w.fit flow (flows_of_all flow f);
   }
     where
       kept : (c : ℕ × Ends × Ratio) → IsIn c rest → IsIn c moved × (not (eqb c.0 leave) ≡ true)
-      kept c i = (filter_in (λ x. not (x.0 == leave)) moved c).0 (subst (λ x. IsIn c x) e i)
+      kept c i = (filter_holds (λ x. not (x.0 == leave)) moved c).0 (subst (λ x. IsIn c x) e i)
 
 pub only_new : (basics : List (ℕ × Ends × Ratio)) (entering : ℕ × Ends × Ratio) → (¬ IsIn entering.0 (numbers_of_arcs basics)) → (x y : ℕ × Ends × Ratio) → IsIn x basics → IsIn y (entering ∷ []) → x.0 ≡ y.0 → x ≡ y
 only_new basics entering n x y i j e = elim j [

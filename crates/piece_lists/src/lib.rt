@@ -11,6 +11,3 @@ pub use flowing::{FlowRefusal, flows_after};
 pub use joining::{both, marks_after};
 pub use numbered::{Numbered, merged, without};
 pub use pieces::pieces_over;
-
-#[cfg(test)]
-mod tests;

@@ -30,7 +30,8 @@ use Rattle.np_basis.proofs.Trees.{same_ends}
 use Rattle.tree_search.specs.Places.{numbers_of_arcs}
 use Rattle.piece_lists.specs.Joining.{all_marks, AreMarksAfter}
 use Rattle.piece_lists.specs.Parts.{touch}
-use Rattle.piece_lists.proofs.Joined.{filter_in, filter_rises}
+use Rattle.gain_graphs.proofs.Lists.{filter_holds}
+use Rattle.piece_lists.proofs.Joined.{filter_rises}
 use Rattle.piece_lists.proofs.Testing.{touch_in, in_touch}
 use Rattle.pivot_step.specs.After.{HasRightPotentials, AreBasicsAfter, AreListsAfter, ArePiecesOver}
 
@@ -109,8 +110,8 @@ module _ (net : Network) (real : ℕ) (ground : HasRealArcs net real) (ps : List
 
     mark_in : (q : PieceLists) → IsIn q qs → (m : ℕ × Mark) → IsIn m q.marks ↔ (IsIn m marks × Touches (nodes_in q) (graph_of (ends_at net.arcs) m.0))
     mark_in q k m = (
-      (λ i. let r = (filter_in (λ (m : ℕ × Mark). touch (nodes_in q) (ends_at net.arcs m.0)) marks m).0 (subst (λ x. IsIn m x) (over.each q k).marked i) in (r.0, touch_in (nodes_in q) (ends_at net.arcs m.0) r.1)),
-      (λ r. subst (λ x. IsIn m x) (sym (over.each q k).marked) ((filter_in (λ (m : ℕ × Mark). touch (nodes_in q) (ends_at net.arcs m.0)) marks m).1 (r.0, in_touch (nodes_in q) (ends_at net.arcs m.0) r.1))),
+      (λ i. let r = (filter_holds (λ (m : ℕ × Mark). touch (nodes_in q) (ends_at net.arcs m.0)) marks m).0 (subst (λ x. IsIn m x) (over.each q k).marked i) in (r.0, touch_in (nodes_in q) (ends_at net.arcs m.0) r.1)),
+      (λ r. subst (λ x. IsIn m x) (sym (over.each q k).marked) ((filter_holds (λ (m : ℕ × Mark). touch (nodes_in q) (ends_at net.arcs m.0)) marks m).1 (r.0, in_touch (nodes_in q) (ends_at net.arcs m.0) r.1))),
     )
 
     up : (q : PieceLists) → IsIn q qs → (e : graph.Ends Ratio) → Touches (nodes_in q) e → Touches (nodes_of ps) e

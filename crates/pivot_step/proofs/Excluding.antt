@@ -32,7 +32,7 @@ use Rattle.np_basis.proofs.Roots.{needed_hold}
 use Rattle.np_basis.proofs.Sound as sounds
 use Rattle.np_basis.proofs.StageOne as stage
 use Rattle.np_basis.proofs.Trees.{potentials_are_unique}
-use Rattle.tree_potentials.proofs.Results.{err_not_ok}
+use Rattle.np_frac.proofs.Results.{err_not_ok}
 use Rattle.tree_potentials.proofs.Settings.{clash}
 use Rattle.tree_flows.proofs.Apart as apart
 use Rattle.pivot_step.specs.Laws.{IsRefused, AnswersExclude, NoRayInStageOne}

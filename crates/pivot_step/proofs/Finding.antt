@@ -31,7 +31,7 @@ use Rattle.piece_lists.specs.Flowing.{IsMoved, AreFlowsAfter}
 use Rattle.np_model.specs.Rows.Moving.{numbers_of_steps}
 use Rattle.piece_lists.specs.Joining.{all_marks, CanBeOne, AreInOne, AreMarksAfter}
 use Rattle.piece_lists.specs.Parts.{nodes_where, touch, piece_at, pieces_at, AreFound}
-use Rattle.piece_lists.proofs.Joined.{filter_in}
+use Rattle.gain_graphs.proofs.Lists.{filter_holds}
 use Rattle.pivot_step.specs.After.{AreBasicsAfter, IsPieceOver, ArePiecesOver}
 use Rattle.pivot_step.proofs.Found as found
 use Rattle.pivot_step.proofs.Found.{AreInside, first_least, some_long}
@@ -189,7 +189,7 @@ module _ (net : Network) (arcs_sound : HasSoundArcs net) (ps : List PieceLists) 
         → IsPieceOver net basics marks (piece_at ends nodes basics marks)
     over_by nodes part = record {
       part = part;
-      own = λ b i. ((filter_in (λ b. touch (numbers_of_nodes nodes) b.1) basics b).0 i).0;
+      own = λ b i. ((filter_holds (λ b. touch (numbers_of_nodes nodes) b.1) basics b).0 i).0;
       marked = filter_same (λ m. touch (numbers_of_nodes nodes) (ends m.0)) (λ m. touch (numbers_of_nodes nodes) (ends_at net.arcs m.0)) marks (λ m. ap (touch (numbers_of_nodes nodes)) (ends_are m.0));
     }
 

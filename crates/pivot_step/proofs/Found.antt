@@ -17,7 +17,8 @@ use Rattle.np_basis.proofs.Ascending.{Ascends, ascends, ascends_once}
 use Rattle.np_basis.proofs.Trees.{same_ends}
 use Rattle.tree_search.specs.Places.{numbers_of_nodes, numbers_of_arcs, ends_of_arcs}
 use Rattle.piece_lists.specs.Parts.{IsReached, nodes_where, touch}
-use Rattle.piece_lists.proofs.Joined.{filter_in, filter_rises}
+use Rattle.gain_graphs.proofs.Lists.{filter_holds}
+use Rattle.piece_lists.proofs.Joined.{filter_rises}
 use Rattle.piece_lists.proofs.Splitting.{where_to, where_from, where_rises}
 use Rattle.piece_lists.proofs.Testing.{touch_in, in_touch}
 
@@ -134,14 +135,14 @@ module _ (net : Network) (nodes : List (ℕ × Ratio)) (arcs : List (ℕ × Ends
   touched ns a = (
     (λ i.
         let r = in_map_of (λ (b : ℕ × Ends × Ratio). b.0) a (filter (λ b. touch ns b.1) arcs) i in
-        let k = (filter_in (λ b. touch ns b.1) arcs r.0).0 r.1 in (
+        let k = (filter_holds (λ b. touch ns b.1) arcs r.0).0 r.1 in (
           subst (λ t. IsIn t (numbers_of_arcs arcs)) (sym r.2) (in_map (λ (b : ℕ × Ends × Ratio). b.0) r.0 arcs k.0),
           subst (λ t. Touches ns (graph_of (ends_at net.arcs) t)) (sym r.2) (subst (λ t. Touches ns (graph_ends t)) (are.ends r.0 k.0) (touch_in ns r.0.1 k.1)),
         )),
     (λ s.
         let r = in_map_of (λ (b : ℕ × Ends × Ratio). b.0) a arcs s.0 in
         subst (λ t. IsIn t (numbers_of_arcs (filter (λ b. touch ns b.1) arcs))) (sym r.2) (in_map (λ (b : ℕ × Ends × Ratio). b.0) r.0 (filter (λ b. touch ns b.1) arcs)
-        ((filter_in (λ b. touch ns b.1) arcs r.0).1
+        ((filter_holds (λ b. touch ns b.1) arcs r.0).1
         (r.1, in_touch ns r.0.1 (subst (λ t. Touches ns (graph_ends t)) (sym (are.ends r.0 r.1)) (subst (λ t. Touches ns (graph_of (ends_at net.arcs) t)) r.2 s.1)))))),
   )
 

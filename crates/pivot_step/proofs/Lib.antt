@@ -10,4 +10,3 @@ mod Naming
 mod Once
 mod Excluding
 pub mod Beside
-pub mod Fixtures

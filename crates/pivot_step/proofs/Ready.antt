@@ -18,16 +18,16 @@ use Rattle.np_model.specs.declared.phase.Phase.{Phase}
 use Rattle.np_model.specs.declared.phase.Phase.TheVariants.{One, Two}
 use Rattle.np_model.specs.Network.Flows.{Network}
 use Rattle.np_model.specs.Basis.Graphs.{ratios, graph_ends, ends_at}
-use Rattle.np_model.specs.Basis.Phases.{real_arc, artificial_arc, phase_arcs, phase_net, real_arcs, all_arcs}
+use Rattle.np_model.specs.Basis.Phases.{phase_net, real_arcs, all_arcs}
 use Rattle.np_model.specs.Basis.Pieces.{PieceLists, nodes_in, basics_in, marked_in, beside, nodes_of, basics_of}
 use Rattle.np_model.specs.Basis.Sound.{values_in, HoldEnds, IsInNet, AreOneOrTwo, AreInOrder, IsAfter}
 use Rattle.np_model.specs.Basis.States.{IsPartOf}
 use Rattle.np_basis.specs.PivotLaws.{HasRealArcs, MayEnter}
 use Rattle.np_model.specs.Basis.Needed.{AreNeededFor}
 use Rattle.np_basis.proofs.Ascending.{ascends, ascends_once}
-use Rattle.np_basis.proofs.Basics.{range_holds}
+use Rattle.gain_graphs.proofs.Lists.{range_holds}
 use Rattle.np_basis.proofs.Directions as directions
-use Rattle.np_basis.proofs.Fulls.{length_full, full_net_is_sound}
+use Rattle.np_basis.proofs.Fulls.{length_full, full_net_is_sound, ends_same}
 use Rattle.np_basis.proofs.Reading.{in_flat}
 use Rattle.np_basis.proofs.Roots.{needed_hold}
 use Rattle.quasi_tree.specs.Store.{IsHeld}
@@ -49,29 +49,6 @@ use Rattle.pivot_step.proofs.Assembled as assembling
 use Rattle.pivot_step.proofs.Finding as finding
 use Rattle.pivot_step.proofs.Flipping as flipping
 use Rattle.pivot_step.proofs.Found.{place_of, AreInside}
-
--- ---- ends in both phases
-
-real_ends : (phase : Phase) (a : NetArc) → (real_arc One a).ends ≡ (real_arc phase a).ends
-real_ends One a = refl
-real_ends Two a = refl
-
-artificial_ends : (phase : Phase) (e : Ends) → (artificial_arc One e).ends ≡ (artificial_arc phase e).ends
-artificial_ends One e = refl
-artificial_ends Two e = refl
-
-same_artificial : (phase : Phase) (es : List Ends) (a : ℕ) → ends_at (map (artificial_arc One) es) a ≡ ends_at (map (artificial_arc phase) es) a
-same_artificial phase [] a = refl
-same_artificial phase (e ∷ es) zero = artificial_ends phase e
-same_artificial phase (e ∷ es) (suc a) = same_artificial phase es a
-
-same_arcs : (phase : Phase) (arcs : List NetArc) (es : List Ends) (a : ℕ) → ends_at (phase_arcs One arcs es) a ≡ ends_at (phase_arcs phase arcs es) a
-same_arcs phase [] es a = same_artificial phase es a
-same_arcs phase (x ∷ arcs) es zero = real_ends phase x
-same_arcs phase (x ∷ arcs) es (suc a) = same_arcs phase arcs es a
-
-pub ends_same : (phase : Phase) (full : FullNet) (a : ℕ) → ends_at (phase_net One full).arcs a ≡ ends_at (phase_net phase full).arcs a
-ends_same phase full a = same_arcs phase full.net.arcs full.artificial a
 
 -- ---- lists
 

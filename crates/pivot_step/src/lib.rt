@@ -15,6 +15,3 @@ pub use attempt::prepare;
 pub use change::{Change, apply};
 pub use pivoter::TreePivoter;
 pub use testing::flow_at;
-
-#[cfg(test)]
-mod tests;

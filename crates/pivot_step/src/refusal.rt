@@ -9,7 +9,7 @@ use piece_lists::FlowRefusal;
 use tree_potentials::PotentialRefusal;
 
 /// Why a move is not made: an operation overflows, or there is not enough memory.
-#[derive(Clone, Copy, Debug, PartialEq, Eq)]
+#[derive(Clone, Copy, PartialEq, Eq)]
 pub(crate) enum Refusal {
     Past(Overflow),
     Memory,

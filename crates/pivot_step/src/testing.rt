@@ -18,7 +18,7 @@ use np_model::{FullNet, Mark, Overflow, Phase, Piece, Upper};
 use quasi_tree::Quasi;
 
 /// Whether an arc may enter, with its mark and its flow; or the overflow of its price.
-#[derive(Clone, Copy, Debug)]
+#[derive(Clone, Copy)]
 pub(crate) enum Tested {
     Eligible { mark: Mark, flow: Frac },
     NotEligible,

@@ -16,12 +16,11 @@ use Rattle.pivot_workers.specs.declared.attempting.Attempted.{Attempted}
 use Rattle.pivot_workers.specs.declared.seeing.Seen.{Seen}
 use Rattle.pivot_workers.specs.Attempts.{IsAttempted}
 use Rattle.pivot_workers.specs.Openings.{named_for, NameSlots}
-use Rattle.pivot_workers.specs.Takes.{seen_at, slots_of, in_order, HasSecond}
+use Rattle.pivot_workers.specs.Takes.{seen_at, slots_of, in_order}
 use Rattle.pivot_workers.specs.Work.{IsReady}
 use Rattle.pivot_workers.specs.Steps.Visits.{visit_of, IsVisited}
 use Rattle.pivot_workers.proofs.Forest.{same_net, same_real, real_ground, ends_near}
 use Rattle.pivot_workers.proofs.Places.{by_order}
-use Rattle.pivot_workers.proofs.Right.{seen_fits}
 use Rattle.pivot_workers.proofs.Tries.{visited}
 
 near_one : (n a : ℕ) → a < n → All (λ k. k < n) (a ∷ [])
@@ -45,9 +44,6 @@ module _ (full : FullNet) (phase : Phase) (openings : List ℕ) (arc : ℕ) (bel
     (seen : Seen) (is : seen ≡ seen_at openings (ends_at (phase_net phase full).arcs arc)) where
   pub near_seen : All (λ k. k < length full.net.supply) (slots_of seen)
   near_seen = subst (λ (s : Seen). All (λ k. k < length full.net.supply) (slots_of s)) (sym is) (near_ends (length full.net.supply) openings (ends_at (phase_net phase full).arcs arc) named (ends_near full phase arc below))
-
-  pub seen_second : HasSecond (ends_at (phase_net phase full).arcs arc) seen.second
-  seen_second = subst (λ (s : Seen). HasSecond (ends_at (phase_net phase full).arcs arc) s.second) (sym is) (seen_fits openings (ends_at (phase_net phase full).arcs arc))
 
   pub tried_at : (p q : PassState) → IsReady full phase p → Stays p q × IsIdle q.view → (q.view.shares ≡ p.view.shares) × (q.view.opening ≡ p.view.opening) → (r : Attempted)
       → IsAttempted (phase_net phase full) (real_arcs full) p q seen arc r → IsVisited openings p q arc (visit_of r)

@@ -3,6 +3,7 @@
 ghost use Rattle.std.specs.Prelude.{◌≡◌, ◌<◌, length, [], ◌∷◌};
 ghost use Rattle.std.specs.List.{All};
 ghost use Rattle.np_model.specs.declared.phase.Phase.{Phase};
+ghost use Rattle.np_model.specs.Network.Arcs.{AreNodes};
 ghost use Rattle.np_model.specs.Basis.Graphs.{ends_at};
 ghost use Rattle.np_model.specs.Basis.Phases.{phase_net, real_arcs};
 ghost use Rattle.tree_table.specs.Calls.{IsOf, Stays, lists_in};
@@ -21,27 +22,38 @@ pub struct Seen {
     pub second: Option<u32>,
 }
 
-/// The numbers named for the ends of this arc, a real one. There is a second one exactly for a link. After a pivot they can be out of date. Takes
-/// no memory.
-pub fn see(openings: &[u32], full: &FullNet, arc: u32) -> Seen
-    requires arc { arc < real_arcs full.now }
-    requires slots { NameSlots (length full.now.net.supply) openings.now }
-    ensures { (phase : Phase) → result ≡ seen_at openings.now (ends_at (phase_net phase full.now).arcs arc) }
+// The numbers named for these ends.
+fn named_at(openings: &[u32], ends: &Ends) -> Seen
+    requires { AreNodes (length openings.now) ends.now }
+    ensures { result ≡ seen_at openings.now ends.now }
 {
-    match full.ends(arc) {
+    match ends {
         Ends::Link { from, to, .. } => Seen {
-            first: openings[from as usize],
-            second: Some(openings[to as usize]),
+            first: openings[*from as usize],
+            second: Some(openings[*to as usize]),
         },
         Ends::Drain(at) | Ends::Feed(at) => Seen {
-            first: openings[at as usize],
+            first: openings[*at as usize],
             second: None,
         },
     }
 }
 
+/// The numbers named for the ends of this arc, a real one. There is a second one exactly for a link. After a pivot they can be out of date. Takes
+/// no memory.
+pub fn see(openings: &[u32], full: &FullNet, arc: u32) -> Seen
+    requires arc { arc < real_arcs full.now }
+    requires slots { NameSlots (length full.now.net.supply) openings.now }
+    ensures seen { (phase : Phase) → result ≡ seen_at openings.now (ends_at (phase_net phase full.now).arcs arc) }
+
+    // Each is the number of a slot.
+    ensures near { All (λ k. k < length full.now.net.supply) (slots_of result) }
+{
+    named_at(openings, &full.ends(arc))
+}
+
 // The pieces that were seen, or the slot that is busy.
-#[derive(Debug, Drop)]
+#[derive(Drop)]
 pub(crate) enum Grabbed<T> {
     Got(Hands<T>),
     Busy { slot: u32, word: u64 },

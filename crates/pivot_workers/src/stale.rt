@@ -27,7 +27,7 @@ fn lacks<T: Piece>(hands: &Hands<T>, slot: u32, node: u32) -> bool
 }
 
 // An end that is not in the piece at the slot where it was seen, with that slot.
-#[derive(Clone, Copy, Debug, PartialEq, Eq)]
+#[derive(Clone, Copy, PartialEq, Eq)]
 pub(crate) struct Gone {
     pub node: u32,
     pub slot: u32,

@@ -17,7 +17,7 @@ use std::alloc::Global;
 use tree_table::{Pass, TreeTable};
 
 // What came of one arc.
-#[derive(Clone, Copy, Debug, PartialEq, Eq)]
+#[derive(Clone, Copy, PartialEq, Eq)]
 pub(crate) enum Visit {
     Pivoted,
     Passed,

@@ -9,6 +9,3 @@ mod start;
 
 pub use lists::{FlowList, Lists, MarkList, NodeList};
 pub use quasi::Quasi;
-
-#[cfg(test)]
-mod tests;

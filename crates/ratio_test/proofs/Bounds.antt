@@ -31,10 +31,6 @@ quotient_is z d r h e = sym (ap (λ (t : Ratio). t *ᵣ inverse d) (sym e) ∙ *
 pub apart : {d : Ratio} → zero_ratio <ᵣ d → d ≢ zero_ratio
 apart h e = clash h (≤ᵣ_same e)
 
-pub num_apart : (r : Ratio) → r ≢ zero_ratio → r.num ≢ pos 0
-unfolding whole
-num_apart r h e = h (same_parts r zero_ratio (rw e (omega arith)))
-
 grown : {y z d : Ratio} → zero_ratio <ᵣ d → y ≤ᵣ z → y *ᵣ d ≤ᵣ z *ᵣ d
 grown {y} {z} {d} h k = rw (*ᵣ_comm y d, *ᵣ_comm z d) (*ᵣ_at_most (<ᵣ_is_≤ᵣ h) k)
 

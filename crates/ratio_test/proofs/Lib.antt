@@ -5,7 +5,3 @@ pub mod First
 pub mod Whole
 pub mod OneStep
 pub mod Unique
-pub mod OneNode
-pub mod TwoNodes
-pub mod FirstStart
-pub mod Single

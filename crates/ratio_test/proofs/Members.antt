@@ -97,11 +97,6 @@ place_of [] b i = absurd i
 place_of (y ∷ ys) b (inl e) = (0, omega arith, sym e)
 place_of (y ∷ ys) b (inr i) = let p = place_of ys b i in (suc p.0, (let l = p.1 in omega arith), p.2)
 
-pub in_list : {A : Type 0} (xs : List A) (i : ℕ) (d : A) → i < length xs → IsIn (get_or xs i d) xs
-in_list [] i d l = absurd (omega arith)
-in_list (x ∷ xs) zero d l = inl refl
-in_list (x ∷ xs) (suc i) d l = inr (in_list xs i d (omega arith))
-
 module _ {A : Type 0} (xs : List (ℕ × A)) (rises : IsStrictlyIncreasing (map (λ (x : ℕ × A). x.0) xs)) where
   pub rises_at : (k i : ℕ) (d : ℕ × A) → k < i → i < length xs → (get_or xs k d).0 < (get_or xs i d).0
   rises_at k i d l h =

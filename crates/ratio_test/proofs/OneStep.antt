@@ -5,7 +5,7 @@ use Rattle.std.specs.Result.{IsOk}
 use Rattle.std.proofs.Common.{refl, sym, ap, ◌∙◌, subst, inl, inr, get_or, take, drop}
 use Rattle.std.proofs.lemmas.List.{map_more, map-append, take-append-drop, drop_more}
 use Rattle.gain_graphs.specs.Arcs.{IsIn}
-use Rattle.gain_graphs.proofs.Lists.{in_append, in_map}
+use Rattle.gain_graphs.proofs.Lists.{in_append, in_map, in_list}
 use Rattle.np_frac.specs.Ratio.{Ratio, zero_ratio}
 use Rattle.np_frac.specs.declared.frac.Past.{Past}
 use Rattle.np_model.specs.declared.arc.NetArc.{NetArc}
@@ -15,7 +15,7 @@ use Rattle.np_model.specs.Rows.Moving.{numbers_of_steps}
 use Rattle.ratio_test.specs.Steps.Soonest.{with_limit, IsSoonestOf}
 use Rattle.ratio_test.specs.declared.stop.Stop.{Stop}
 use Rattle.ratio_test.proofs.First.{one_more, first_past}
-use Rattle.ratio_test.proofs.Members.{in_list, before_below, own_amount}
+use Rattle.ratio_test.proofs.Members.{before_below, own_amount}
 
 -- the same limit, in other words
 pub limit_is : (arc : NetArc) (flow flow' amount amount' : Ratio) (r s : Result (Option Ratio) Past) → r ≡ limit_of arc flow amount → flow ≡ flow' → amount' ≡ amount → r ≡ s

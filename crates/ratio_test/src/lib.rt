@@ -10,6 +10,3 @@ mod stop;
 
 pub use answer::RatioAnswer;
 pub use follow::ratio;
-
-#[cfg(test)]
-mod tests;

@@ -9,7 +9,7 @@ use np_frac::Frac;
 use np_model::Mark;
 
 /// An arc that stops the flows: the bound at which it comes to rest, and the step at which it does.
-#[derive(Clone, Copy, Debug, PartialEq, Eq)]
+#[derive(Clone, Copy, PartialEq, Eq)]
 pub(crate) struct Stop {
     pub arc: u32,
     pub bound: Mark,

@@ -45,16 +45,6 @@ written_off d [] xs v h = refl
 written_off d (e ∷ es) xs v h =
     written_off d es (set xs e.0 e.1) v (λ k. h (k.0, inr k.1, k.2)) ∙ get_or-set_other xs e.0 v e.1 d (λ q. h (e, inl refl, sym q))
 
-pub in_map : {A B : Type 0} (f : A → B) (x : A) (xs : List A) → IsIn x xs → IsIn (f x) (map f xs)
-in_map f x (y ∷ ys) (inl e) = inl (ap f e)
-in_map f x (y ∷ ys) (inr i) = inr (in_map f x ys i)
-in_map f x [] i = absurd i
-
-pub in_map_of : {A B : Type 0} (f : A → B) (y : B) (xs : List A) → IsIn y (map f xs) → (x : A) × IsIn x xs × (y ≡ f x)
-in_map_of f y [] i = absurd i
-in_map_of f y (x ∷ xs) (inl e) = (x, inl refl, e)
-in_map_of f y (x ∷ xs) (inr i) = let r = in_map_of f y xs i in (r.0, inr r.1, r.2)
-
 -- one more entry of a loop, where the entry is an item of plain data
 pub written_next : {A B : Type 0} (f : B → ℕ × A) (items : List B) (i : ℕ) (d : B) (start now : List A) → i < length items → now ≡ written (map f (take i items)) start
     → set now (f (get_or items i d)).0 (f (get_or items i d)).1 ≡ written (map f (take (i + 1) items)) start

@@ -18,7 +18,7 @@ use std::thread::Threads;
 use tree_potentials::PotentialRefusal;
 
 /// The stage that is due.
-#[derive(Debug, Drop)]
+#[derive(Drop)]
 pub(crate) enum Due {
     /// The run goes on; it has turned behind so many entries, or not yet.
     Live(Option<u32>),

@@ -13,7 +13,7 @@ use quasi_tree::Quasi;
 
 /// The pieces of a state, each in the slot of its least node, for each node the least node of its piece, and the state as tables:
 /// potentials by node, flows and marks by arc, the artificial ones behind the real ones.
-#[derive(Debug, Drop)]
+#[derive(Drop)]
 pub(crate) struct Forest {
     pub slots: Vec<Option<Quasi>>,
     pub homes: Vec<u32>,

@@ -17,7 +17,3 @@ pub use solving::{NetSimplex, solve};
 
 #[cfg(test)]
 mod passes;
-#[cfg(test)]
-mod tests;
-#[cfg(test)]
-mod walks;

@@ -2,7 +2,10 @@
 //! hand, and finds it empty once that piece is no more, as it was joined to another. In a table of stage two it takes a piece that has lost a
 //! node which it had at the opening, and is told which one.
 
-ghost use Rattle.std.specs.Prelude.{◌≡◌, ◌≤◌, ◌<◌, ◌+◌, ◌++◌, ◌∷◌, [], length, None, IfOk, OnOk};
+ghost use Rattle.std.specs.Prelude.{◌≡◌, ◌≢◌, ◌≤◌, ◌<◌, ◌+◌, ◌++◌, ◌∷◌, [], length, None, IfOk, OnOk};
+ghost use Rattle.std.specs.List.{All};
+ghost use Rattle.np_model.specs.Network.Arcs.{AreNodes, IsGaining};
+ghost use Rattle.np_model.specs.Network.Nets.{IsSoundArc};
 ghost use Rattle.np_model.specs.Basis.Phases.{phase_net, real_arcs};
 ghost use Rattle.np_model.specs.Basis.States.{IsState};
 ghost use Rattle.np_model.specs.declared.phase.Phase.TheVariants.{One, Two};
@@ -17,10 +20,12 @@ use crate::driver::{Due, turn_if_due};
 use crate::forest::Forest;
 use crate::rounds::take_pieces;
 use crate::solving::read_values;
-use crate::tests::{arc, entry, link, network};
 use basis_start::start;
 use np_frac::{Frac, Memory};
-use np_model::{Ends, Entry, FullNet, Hands, Net, Nums, OpenGate, Phase, Piece, Prepared};
+use np_model::{
+    Ends, Entry, Fracs, FullNet, Hands, Mark, Net, NetArc, NetArcs, Nums, OpenGate, Phase, Piece,
+    Prepared, Upper,
+};
 use np_runs::laws::started;
 use pivot_step::TreePivoter;
 use pivot_workers::{Attempted, attempt, opening_slots, see};
@@ -28,6 +33,60 @@ use quasi_tree::Quasi;
 use std::alloc::Global;
 use std::test::Fail;
 use tree_table::{Closed, Pass, Taken, TreeTable};
+
+// A link with this gain, or a drain where it is not above 0.
+fn link(nodes: u32, from: u32, to: u32, gain: Frac) -> Ends
+    requires one { from < nodes }
+    requires other { to < nodes }
+    requires apart { from ≢ to }
+    ensures joins { AreNodes nodes result }
+    ensures gains { IsGaining result }
+{
+    if Frac::whole(0).is_below(gain) {
+        Ends::Link { from, to, gain }
+    } else {
+        Ends::Drain(from)
+    }
+}
+
+// An arc from 0 with no upper bound, in a network of so many nodes.
+fn arc(nodes: u32, ends: Ends, cost: i64) -> NetArc
+    requires joins { AreNodes nodes ends }
+    requires gains { IsGaining ends }
+    ensures { IsSoundArc nodes result }
+{
+    NetArc {
+        ends,
+        lower: Frac::whole(0),
+        upper: Upper::Infinite,
+        cost: Frac::whole(cost),
+    }
+}
+
+// The network with these supplies and arcs.
+fn network(alloc: Global, supply: &[Frac], arcs: &[NetArc]) -> Result<Net, Memory>
+    requires few_nodes { length supply.now ≤ 20000 }
+    requires few_arcs { length arcs.now ≤ 100000 }
+    requires sound { All (IsSoundArc (length supply.now)) arcs.now }
+{
+    Ok(Net {
+        supply: Fracs {
+            items: Vec::from_slice(alloc, supply)?,
+        },
+        arcs: NetArcs {
+            items: Vec::from_slice(alloc, arcs)?,
+        },
+    })
+}
+
+// A pivot after which the arc that leaves stands at its lower bound.
+fn entry(enter: u32, leave: u32) -> Entry {
+    Entry {
+        enter,
+        leave,
+        leave_at: Mark::Lower,
+    }
+}
 
 // A link from node 0 to node 1, which has two drains, and a drain of node 0 that earns 1.
 fn four_arcs(alloc: Global) -> Result<Net, Memory> {

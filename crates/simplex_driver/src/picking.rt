@@ -14,7 +14,7 @@ use pivot_step::Change;
 use std::alloc::Global;
 
 /// What the attempts with listed arcs come to.
-#[derive(Debug, Drop)]
+#[derive(Drop)]
 pub(crate) enum Picked {
     /// The pivot of this entry can be made.
     Ready { entry: Entry, change: Change },

@@ -1,29 +1,16 @@
 //! The ray of an unbounded network, as a list by arc.
 
-ghost use Rattle.std.specs.Prelude.{◌≡◌, ◌<◌, ℕ, IfOk, length, map};
+ghost use Rattle.std.specs.Prelude.{◌≡◌, IfOk, map};
 ghost use Rattle.std.specs.List.{range_with_len};
 ghost use Rattle.std.specs.List.Sorted.{IsStrictlyIncreasing};
 ghost use Rattle.np_frac.specs.Ratio.{zero_ratio};
-ghost use Rattle.np_model.specs.Network.Flows.{at};
 ghost use Rattle.np_model.specs.Basis.Pieces.{beside};
 ghost use Rattle.np_model.specs.Rows.Moving.{numbers_of_steps};
 ghost use Rattle.simplex_driver.specs.Store.{written};
 
 use np_frac::{Frac, Memory};
-use np_model::Fracs;
+use np_model::{Fracs, zeros};
 use std::alloc::Global;
-
-// So many amounts of 0.
-fn zeros(alloc: Global, count: usize) -> Result<Vec<Frac>, Memory>
-    ensures long { IfOk result (λ list. length list.items ≡ count) }
-    ensures zeros { IfOk result (λ list. (i : ℕ) → i < count → at list.items i ≡ zero_ratio) }
-{
-    let mut list = Vec::with_capacity(alloc, count)?;
-    for _ in 0..count {
-        list.push(Frac::whole(0))?;
-    }
-    Ok(list)
-}
 
 // Writes the amounts of the arcs that the list has.
 fn write_steps(amounts: &mut [Frac], steps: &[(u32, Frac)])

@@ -16,7 +16,7 @@ use std::alloc::Global;
 use std::thread::Threads;
 
 /// What the next step of a run is.
-#[derive(Debug, Drop)]
+#[derive(Drop)]
 pub(crate) enum Found {
     /// The pivot of this entry can be made, of the first listed arc for which one can.
     Pivot {

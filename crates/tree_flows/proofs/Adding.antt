@@ -26,7 +26,7 @@ use Rattle.tree_search.proofs.Trees as places
 use Rattle.tree_flows.specs.Along.{IsWithin, has_end, ending_at, arcs_from, in_part, sum_part, add_entering, sum_of}
 use Rattle.tree_flows.proofs.Zeros.{add_nothing, zero_fits}
 use Rattle.tree_flows.proofs.Coefficients.{touch_true, true_touch, joins_touches}
-use Rattle.tree_flows.proofs.Results.{same_when, then_then}
+use Rattle.np_frac.proofs.Results.{same_when, then_then}
 use Rattle.tree_flows.proofs.Scenes as scenes
 use Rattle.tree_flows.proofs.Scenes.{Scene, end_places}
 

@@ -17,7 +17,7 @@ use Rattle.np_model.specs.Rows.Directions as rows
 use Rattle.np_model.specs.Rows.Directions.{term, turned, with_first, sum_at, AreAddedAt, IsAddedAt, IsNode, HasSum, Gives, FitsRows, FitsExtra}
 use Rattle.np_model.specs.Rows.Extra.{Extra, OneEnd, Round, extra_nodes, IsExtra}
 use Rattle.np_basis.proofs.Ascending.{Ascends, same_rising, sort, rises}
-use Rattle.tree_flows.proofs.Results.{is_ok_of, err_not_ok, ok_is, same_ok, ok_or_err, same_when}
+use Rattle.np_frac.proofs.Results.{is_ok_of, err_not_ok, ok_is, same_ok, ok_or_err, same_when}
 
 to_pair : (way : List (ℕ × ℕ)) (v : ℕ) → IsIn v (nodes_along way) → (a : ℕ) × IsIn (a, v) way
 to_pair [] v i = absurd i

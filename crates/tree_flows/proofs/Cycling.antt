@@ -36,7 +36,7 @@ use Rattle.tree_search.specs.Finding.{way_of}
 use Rattle.tree_flows.specs.Along.{IsWithin, is_zero, are_zero, sum_of, gather_sums, last_of, amount_behind, share_behind, divisor_of, closing_of, mix_after, mix_all, mix_of, turn_round, overflow_at, in_row, ◌▸◌}
 use Rattle.tree_flows.specs.Walks.{close_round}
 use Rattle.tree_flows.proofs.Coefficients.{K, taken, sum_exact, first_exact, term_exact, joins_touches, touches_joins, end_not_joins}
-use Rattle.tree_flows.proofs.Results.{is_ok_of}
+use Rattle.np_frac.proofs.Results.{is_ok_of}
 use Rattle.tree_flows.proofs.Scenes as scenes
 use Rattle.tree_flows.proofs.Scenes.{Scene}
 use Rattle.tree_flows.proofs.Adding as adding

@@ -23,7 +23,7 @@ use Rattle.tree_search.proofs.Placed as placed
 use Rattle.tree_flows.specs.Along.{sum_of}
 use Rattle.tree_flows.specs.Walks.{close_end}
 use Rattle.tree_flows.proofs.Coefficients.{K, taken, sum_exact, turned_exact, only_one, K_not_zero, end_touches}
-use Rattle.tree_flows.proofs.Results.{is_ok_of}
+use Rattle.np_frac.proofs.Results.{is_ok_of}
 use Rattle.tree_flows.proofs.Scenes as scenes
 use Rattle.tree_flows.proofs.Scenes.{Scene}
 use Rattle.tree_flows.proofs.Adding as adding

@@ -22,7 +22,7 @@ use Rattle.tree_search.specs.Search.{GoesOn}
 use Rattle.tree_search.specs.Finding.{starts_of}
 use Rattle.tree_search.specs.Outwards.{IsStepOver}
 use Rattle.tree_flows.specs.Along.{IsWithin, gather, amount_of}
-use Rattle.tree_flows.proofs.Results.{is_ok_of}
+use Rattle.np_frac.proofs.Results.{is_ok_of}
 use Rattle.tree_flows.proofs.Scenes as scenes
 use Rattle.tree_flows.proofs.Scenes.{Scene}
 use Rattle.tree_flows.proofs.Adding as adding

@@ -1,6 +1,5 @@
 mod Zeros
 mod Coefficients
-mod Results
 mod Scenes
 mod Adding
 mod Balances
@@ -18,5 +17,3 @@ mod Pulling
 mod Listing
 mod Together
 mod Answering
-mod FiveNodes
-mod TwoNodes

@@ -21,7 +21,7 @@ use Rattle.tree_search.specs.Places.{numbers_of_nodes, number_by_place, ends_by_
 use Rattle.tree_search.specs.Finding.{way_of}
 use Rattle.tree_flows.specs.Along.{next_amount, next_share, amount_behind, share_behind, last_of, end_term, divisor_of, closing_of, mix_after}
 use Rattle.tree_flows.proofs.Coefficients.{K, HasRatio, only_one, ok_same, term_exact, turned_exact, K_not_zero, joins_touches}
-use Rattle.tree_flows.proofs.Results.{is_ok_of, same_when, then_then}
+use Rattle.np_frac.proofs.Results.{is_ok_of, same_when, then_then}
 
 -- ---- over one arc
 

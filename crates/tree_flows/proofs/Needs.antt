@@ -5,10 +5,10 @@ use Rattle.std.proofs.Common.{refl, sym, subst, ◌∙◌, inl, inr, arith}
 use Rattle.gain_graphs.specs.Arcs.{IsIn}
 use Rattle.gain_graphs.specs.Cycles.{IsNoLoop, IsWay}
 use Rattle.gain_graphs.specs.QuasiTrees.{LiesIn}
-use Rattle.gain_graphs.proofs.Lists.{in_map, length_map}
+use Rattle.gain_graphs.proofs.Lists.{in_map, length_map, in_list}
 use Rattle.np_frac.specs.Ratio as ratio
 use Rattle.np_frac.specs.Ratio.{Ratio, zero_ratio}
-use Rattle.np_frac.proofs.Parts.{same_parts}
+use Rattle.np_frac.proofs.Parts.{num_apart}
 use Rattle.np_model.specs.declared.arc.Ends.{Ends}
 use Rattle.np_model.specs.declared.arc.Ends.TheVariants.{Link, Drain, Feed}
 use Rattle.np_model.specs.Network.Flows.{Network}
@@ -25,24 +25,15 @@ use Rattle.tree_search.specs.declared.piece.Joint.{Joint}
 use Rattle.tree_search.specs.declared.piece.ExtraArc.{ExtraArc}
 use Rattle.tree_search.specs.declared.piece.ExtraArc.TheVariants as found
 use Rattle.tree_search.specs.declared.search.Search.{Search}
-use Rattle.tree_search.specs.Places.{loose, number_by_place, AreEndsOf, AreJoints, IsTree}
+use Rattle.tree_search.specs.Places.{loose, number_by_place, AreEndsOf, AreJoints, IsTree, HasGain}
 use Rattle.tree_search.specs.Search.{IsSearch}
 use Rattle.tree_search.specs.Finding.{first_node, way_of, starts_of, IsFound, IsPlaced}
 use Rattle.tree_search.proofs.Placed.{joints_below, placed}
 use Rattle.tree_search.proofs.Trees.{ends_is}
-use Rattle.tree_flows.specs.Along.{HasGain, HaveGains, IsWithin, last_of, divisor_of}
+use Rattle.tree_flows.specs.Along.{HaveGains, IsWithin, last_of, divisor_of}
 use Rattle.tree_flows.specs.Walks.{CanClose, HasDivisor}
 use Rattle.tree_flows.proofs.Mixing as mixing
 use Rattle.tree_flows.proofs.Walked.{all_places}
-
-in_list : {A : Type 0} (xs : List A) (i : ℕ) (d : A) → i < length xs → IsIn (slice_index_or xs i d) xs
-in_list [] i d l = absurd (omega arith)
-in_list (x ∷ xs) zero d l = inl refl
-in_list (x ∷ xs) (suc i) d l = inr (in_list xs i d (omega arith))
-
-num_apart : (r : Ratio) → r ≢ zero_ratio → r.num ≢ pos 0
-unfolding ratio.whole
-num_apart r n e = n (same_parts r zero_ratio (rw e (omega arith)))
 
 pub last_within : (nodes : List (ℕ × Ratio)) (basics : List (ℕ × Ends × Ratio)) (z : Step) (rest : List Step) → IsWithin nodes basics z → All (λ s. IsWithin nodes basics s) rest → IsWithin nodes basics (last_of z rest)
 last_within nodes basics z [] w h = w

@@ -1,12 +1,11 @@
 -- The operations of the rows of directions at the nodes of a piece, and inwards along its steps. Nodes and basic arcs are named by their places.
-use Rattle.std.specs.Prelude.{◌≢◌, ◌<◌, ◌==◌, nat_lt, nat_le, ℕ, suc, Bool, true, false, List, [], ◌∷◌, length, drop, slice_index, slice_set, Result, Ok, Err, if◌then◌else◌, pos, ⊤}
+use Rattle.std.specs.Prelude.{◌<◌, ◌==◌, nat_lt, nat_le, ℕ, suc, Bool, true, false, List, [], ◌∷◌, length, drop, slice_index, slice_set, Result, Ok, Err, if◌then◌else◌}
 use Rattle.std.specs.List.{All}
 use Rattle.np_frac.specs.Ratio.{Ratio, zero_ratio, one_ratio, negated}
 use Rattle.np_frac.specs.Order.{ratio_eq}
 use Rattle.np_frac.specs.Exact.{plus_of, over_of, ◌▷◌}
 use Rattle.np_frac.specs.declared.frac.Past.{Past}
 use Rattle.np_model.specs.declared.arc.Ends.{Ends}
-use Rattle.np_model.specs.declared.arc.Ends.TheVariants.{Link, Drain, Feed}
 use Rattle.np_model.specs.declared.rows.Row.{Row}
 use Rattle.np_model.specs.declared.rows.Row.TheVariants.{A3, A4}
 use Rattle.np_model.specs.declared.rows.Place.TheVariants.{Arc}
@@ -16,15 +15,9 @@ use Rattle.np_model.specs.Basis.Starts.{touches}
 use Rattle.np_model.specs.Rows.Directions.{term, turned, with_first, mixed}
 use Rattle.tree_search.specs.declared.piece.Step.{Step}
 use Rattle.tree_search.specs.declared.piece.Joint.{Joint}
-use Rattle.tree_search.specs.Places.{numbers_of_nodes, ends_by_place}
+use Rattle.tree_search.specs.Places.{numbers_of_nodes, ends_by_place, HasGain}
 
 -- ---- what the operations need
-
--- the gain of a link is not 0
-abbrev pub HasGain : Ends → Type 0
-HasGain (Link from to gain) = gain.num ≢ pos 0
-HasGain (Drain node) = ⊤
-HasGain (Feed node) = ⊤
 
 abbrev pub HaveGains : List (ℕ × Ends × Ratio) → Type 0
 HaveGains basics = All (λ b. HasGain b.1) basics

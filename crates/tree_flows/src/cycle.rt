@@ -8,11 +8,10 @@ ghost use Rattle.tree_search.specs.Places.{numbers_of_nodes, ends_by_place};
 ghost use Rattle.tree_flows.specs.Along.{HaveGains, IsWithin, are_zero, next_amount, next_share, amount_behind, share_behind, last_of, divisor_of, closing_of, mix_after, mix_all, mix_of, turn_round};
 
 use crate::refusal::at_arc;
-use crate::sums::node_of;
 use crate::terms::{is_nothing, plus_first, term_of, turn};
 use np_frac::{Frac, Past};
 use np_model::{Ends, Overflow, Row};
-use tree_search::Step;
+use tree_search::{Step, node_of};
 
 // The nodes and basic arcs of a piece with a cycle, and the sums at its nodes.
 #[derive(Clone, Copy)]

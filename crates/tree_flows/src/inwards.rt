@@ -5,10 +5,10 @@ ghost use Rattle.std.specs.List.{All};
 ghost use Rattle.tree_search.specs.Search.{IsIncidence};
 ghost use Rattle.tree_flows.specs.Along.{HaveGains, IsWithin, amount_of, gather, gather_sums};
 
-use crate::sums::{Rows, node_of};
+use crate::sums::Rows;
 use crate::terms::turn;
 use np_frac::{Frac, Past};
-use tree_search::Step;
+use tree_search::{Step, node_of};
 
 // The amount on the arc of a step, which settles the sum at its far node.
 fn amount_over(rows: &Rows<'_>, amounts: &[Frac], step: Step) -> Result<Frac, Past>

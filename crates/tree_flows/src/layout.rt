@@ -1,9 +1,8 @@
 //! A piece as its rows go over it, before any arithmetic.
 
-ghost use Rattle.std.specs.Prelude.{◌≡◌, ◌<◌, ◌≤◌, ◌^◌, ℕ, length, slice_index_or, IfOk};
+ghost use Rattle.std.specs.Prelude.{◌≡◌, ◌<◌, ◌≤◌, ◌^◌, length, slice_index_or, IfOk};
 ghost use Rattle.std.specs.List.{All};
 ghost use Rattle.std.specs.List.Sorted.{IsStrictlyIncreasing};
-ghost use Rattle.np_frac.specs.Ratio.{zero_ratio};
 ghost use Rattle.np_model.specs.Network.Flows.{at};
 ghost use Rattle.tree_search.specs.Places.{numbers_of_nodes, number_by_place, EndsHavePlaces, IsTree};
 ghost use Rattle.tree_flows.specs.Walks.{IsLaidOut, ComesAt};
@@ -17,7 +16,7 @@ use tree_search::{
 
 // The places of the ends of the basic arcs and the arcs at each node, the extra arc, the search off it, and how many basic arcs come
 // before the one that enters.
-#[derive(Debug, Drop)]
+#[derive(Drop)]
 pub(crate) struct Layout {
     pub joints: Vec<Joint>,
     pub incidence: Incidence,
@@ -36,18 +35,6 @@ fn place_before(basics: &[(u32, Ends, Frac)], enter: u32) -> u32
         place += 1;
     }
     place as u32
-}
-
-// So many amounts of 0.
-pub(crate) fn zeros(alloc: Global, count: usize) -> Result<Vec<Frac>, Memory>
-    ensures long { IfOk result (λ list. length list.items ≡ count) }
-    ensures zeros { IfOk result (λ list. (i : ℕ) → i < count → at list.items i ≡ zero_ratio) }
-{
-    let mut list = Vec::with_capacity(alloc, count)?;
-    for _ in 0..count {
-        list.push(Frac::whole(0))?;
-    }
-    Ok(list)
 }
 
 // The layout of the piece with these nodes and basic arcs, for the arc with this number.

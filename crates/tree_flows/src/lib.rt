@@ -14,6 +14,3 @@ mod walk;
 
 pub use answer::direction;
 pub use refusal::DirRefusal;
-
-#[cfg(test)]
-mod tests;

@@ -14,13 +14,13 @@ ghost use Rattle.tree_flows.specs.Walks.{IsLaidOut};
 ghost use Rattle.tree_flows.specs.Answers.{piece_of, IsPulled, ArePulled, AreAmounts, IsOverflow, AreStepsOn, IsRefusedOn};
 ghost use Rattle.np_model.specs.Basis.Needed.{lists_of};
 
-use crate::layout::{Layout, layout_of, zeros};
+use crate::layout::{Layout, layout_of};
 use crate::moves::with_moving;
 use crate::refusal::DirRefusal;
 use crate::sums::{Entering, Rows};
 use crate::walk::amounts_on;
 use np_frac::{Frac, Memory};
-use np_model::{Ends, Overflow, Piece};
+use np_model::{Ends, Overflow, Piece, zeros};
 use quasi_tree::Quasi;
 use std::alloc::Global;
 

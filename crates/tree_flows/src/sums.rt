@@ -7,7 +7,7 @@ ghost use Rattle.tree_search.specs.Places.{numbers_of_nodes};
 use crate::terms::{touches, with_term};
 use np_frac::{Frac, Past};
 use np_model::Ends;
-use tree_search::{Incidence, Joint};
+use tree_search::{Incidence, Joint, node_of};
 
 /// The arc that enters, with its ends and the amount on it, 1 or -1.
 #[derive(Clone, Copy)]
@@ -15,14 +15,6 @@ pub(crate) struct Entering {
     pub arc: u32,
     pub ends: Ends,
     pub amount: Frac,
-}
-
-// The number of the node at a place.
-pub(crate) fn node_of(nodes: &[(u32, Frac)], place: u32) -> u32
-    requires { place < length nodes.now }
-    ensures { result ≡ slice_index (numbers_of_nodes nodes.now) place }
-{
-    nodes[place as usize].0
 }
 
 // The lists of a piece that its rows read: its nodes and its basic arcs, where these end, and the arcs at each node; the arc that enters,

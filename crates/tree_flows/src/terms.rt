@@ -4,7 +4,8 @@ ghost use Rattle.std.specs.Prelude.{◌≡◌};
 ghost use Rattle.np_frac.specs.Exact.{plus_of, ◌▷◌};
 ghost use Rattle.np_model.specs.Rows.Directions.{term, turned, with_first};
 ghost use Rattle.np_model.specs.Basis.Starts.{touches as has_end_at};
-ghost use Rattle.tree_flows.specs.Along.{HasGain, is_zero};
+ghost use Rattle.tree_search.specs.Places.{HasGain};
+ghost use Rattle.tree_flows.specs.Along.{is_zero};
 
 use np_frac::{Frac, Past};
 use np_model::Ends;

@@ -10,11 +10,11 @@ ghost use Rattle.tree_flows.specs.Walks.{HasDivisor, close_end, close_round, clo
 use crate::cycle::{Round, are_nothing, turn_amounts};
 use crate::inwards::{gather_amounts, sums_round};
 use crate::refusal::at_arc;
-use crate::sums::{Rows, node_of};
+use crate::sums::Rows;
 use crate::terms::turn;
 use np_frac::{Frac, Past};
 use np_model::{Overflow, Row};
-use tree_search::{ExtraArc, Step};
+use tree_search::{ExtraArc, Step, node_of};
 
 // The amounts with that on the extra arc, which has one end.
 fn end_amounts(rows: &Rows<'_>, arc: u32, amounts: Vec<Frac>) -> Result<Vec<Frac>, Past>

@@ -23,7 +23,7 @@ use Rattle.tree_search.specs.Search.{GoesOn}
 use Rattle.tree_search.specs.Finding.{Follows, way_of}
 use Rattle.tree_potentials.specs.Along.{IsWithin, over_step, spread, but_last}
 use Rattle.tree_potentials.proofs.Links.{Crosses, across_gives, across_fits}
-use Rattle.tree_potentials.proofs.Results.{is_ok_of}
+use Rattle.np_frac.proofs.Results.{is_ok_of}
 use Rattle.tree_potentials.proofs.Rounds.{step_is}
 
 same_or : (i j : ℕ) → (i ≡ j) ⊎ (i ≢ j)

@@ -4,5 +4,3 @@ pub mod Rounds
 pub mod Carried
 pub mod Whole
 pub mod Settings
-pub mod FiveNodes
-pub mod OneNode

@@ -1,38 +1,10 @@
--- Answers of operations, one after the other.
+-- Answers of operations that are told with their row.
 use Rattle.std.specs.Prelude.{◌≡◌, ◌⊎◌, Result, Ok, Err}
-use Rattle.std.specs.Result.{IsOk}
-use Rattle.std.proofs.Common.{refl, sym, ◌∙◌, inl, inr, true≢false}
+use Rattle.std.proofs.Common.{refl, inl, inr}
 use Rattle.np_frac.specs.declared.frac.Past.{Past}
-use Rattle.np_frac.specs.Exact.{◌▷◌}
 use Rattle.np_model.specs.declared.rows.Row.{Row}
 use Rattle.np_model.specs.declared.rows.Overflow.{Overflow}
 use Rattle.tree_potentials.specs.Along.{overflow_at_turn, in_row, ◌▸◌}
-
-pub is_ok_of : {A E : Type 0} (r : Result A E) (x : A) → r ≡ Ok x → IsOk r
-is_ok_of (Ok y) x e = refl
-is_ok_of (Err past) x e = absurd (let h : ⊥ = cc in h)
-
-pub err_not_ok : {A E : Type 0} (r : Result A E) (past : E) → r ≡ Err past → IsOk r → ⊥
-err_not_ok (Ok x) past e h = cc
-err_not_ok (Err p) past e h = true≢false (sym h)
-
-pub ok_is : {A E : Type 0} (r : Result A E) → IsOk r → (x : A) × (r ≡ Ok x)
-ok_is (Ok x) h = (x, refl)
-ok_is (Err p) h = absurd (true≢false (sym h))
-
-pub same_ok : {A E : Type 0} (r : Result A E) (x y : A) → r ≡ Ok x → r ≡ Ok y → x ≡ y
-same_ok r x y e f = let g : Ok x ≡ Ok y = sym e ∙ f in cc
-
-pub same_then : {A B : Type 0} (r : Result A Past) (g h : A → Result B Past) → ((x : A) → g x ≡ h x) → (r ▷ g) ≡ (r ▷ h)
-same_then (Ok x) g h e = e x
-same_then (Err past) g h e = refl
-
--- the first operation overflows, or what comes after it
-pub refused_by : {A B : Type 0} (r : Result A Past) (f : A → Result B Past) (past : Past) → (r ▷ f) ≡ Err past → (r ≡ Err past) ⊎ ((x : A) × (r ≡ Ok x) × (f x ≡ Err past))
-refused_by (Ok x) f past e = inr (x, refl, e)
-refused_by (Err p) f past e = inl cc
-
--- ---- with rows
 
 pub row_ok : {A : Type 0} (row : Row) (r : Result A Past) (x : A) → in_row row r ≡ Ok x → r ≡ Ok x
 row_ok row (Ok y) x e = cc

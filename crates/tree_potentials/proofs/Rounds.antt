@@ -25,7 +25,8 @@ use Rattle.tree_search.specs.Places.{numbers_of_nodes, number_by_place, ends_by_
 use Rattle.tree_search.specs.Finding.{Follows, way_of}
 use Rattle.tree_potentials.specs.Along.{IsWithin, overflow_at_turn, in_row, product_of, over_step, potential_of, divisor_of, root_of}
 use Rattle.tree_potentials.proofs.Links.{Crosses, parts_across, over_times}
-use Rattle.tree_potentials.proofs.Results.{same_then, refused_by, row_ok, row_err, next_ok, next_err}
+use Rattle.np_frac.proofs.Results.{same_then, refused_by}
+use Rattle.tree_potentials.proofs.Results.{row_ok, row_err, next_ok, next_err}
 
 module _ (ends : ℕ → Ends) (cost : ℕ → Ratio) (nodes own : List ℕ) (p : ℕ → Ratio)
     (crosses : (a u v : ℕ) → IsIn a own → Joins (graph_of ends a) u v → Crosses nodes (ends a) (cost a) p u v) where

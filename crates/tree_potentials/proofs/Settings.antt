@@ -6,14 +6,14 @@ use Rattle.std.proofs.Common.{refl, sym, ap, ap₂, subst, ◌∙◌, inl, inr, 
 use Rattle.gain_graphs.specs.Arcs.{IsIn}
 use Rattle.gain_graphs.specs.Cycles.{Joins}
 use Rattle.gain_graphs.specs.QuasiTrees.{LiesIn}
-use Rattle.gain_graphs.proofs.Lists.{in_map, length_map}
+use Rattle.gain_graphs.proofs.Lists.{in_map, length_map, in_list}
 use Rattle.np_frac.specs.Ratio as ratio
 use Rattle.np_frac.specs.Ratio.{Ratio, zero_ratio}
 use Rattle.np_frac.specs.Fits.{Fits}
 use Rattle.np_frac.specs.Exact.{over_of, ◌▷◌}
 use Rattle.np_frac.specs.declared.frac.Past.{Past}
 use Rattle.np_frac.proofs.Exactness.{found_by}
-use Rattle.np_frac.proofs.Parts.{same_parts}
+use Rattle.np_frac.proofs.Parts.{num_apart}
 use Rattle.np_model.specs.declared.arc.Ends.{Ends}
 use Rattle.np_model.specs.declared.arc.Ends.TheVariants.{Link, Drain, Feed}
 use Rattle.np_model.specs.declared.rows.Row.{Row}
@@ -37,16 +37,16 @@ use Rattle.tree_search.specs.declared.piece.Joint.{Joint}
 use Rattle.tree_search.specs.declared.piece.ExtraArc.{ExtraArc}
 use Rattle.tree_search.specs.declared.piece.ExtraArc.TheVariants as found
 use Rattle.tree_search.specs.declared.search.Search.{Search}
-use Rattle.tree_search.specs.Places.{loose, HasPlace, EndsHavePlaces, AreJoints, IsTree}
+use Rattle.tree_search.specs.Places.{loose, HasPlace, EndsHavePlaces, AreJoints, IsTree, HasGain}
 use Rattle.tree_search.specs.Search.{IsSearch, IsClosed}
 use Rattle.tree_search.specs.Finding.{first_node, way_of, starts_of, IsFound}
 use Rattle.tree_search.proofs.Placed.{joints_below, placed}
 use Rattle.tree_search.proofs.Searches.{at_of}
 use Rattle.quasi_tree.specs.Store.{with_potentials}
-use Rattle.tree_potentials.specs.Along.{costs_in, HasGain, AreWalkable, IsWithin, CanWalkOff, EndFits, walk_off}
+use Rattle.tree_potentials.specs.Along.{costs_in, AreWalkable, IsWithin, CanWalkOff, EndFits, walk_off}
 use Rattle.tree_potentials.specs.Answers.{piece_of, ArePotentials, HasPotentials, GivesPast, IsOverflow}
 use Rattle.tree_potentials.proofs.Rounds.{divisor_is}
-use Rattle.tree_potentials.proofs.Results.{ok_is, is_ok_of, err_not_ok, same_ok}
+use Rattle.np_frac.proofs.Results.{ok_is, is_ok_of, err_not_ok, same_ok}
 use Rattle.tree_potentials.proofs.Whole.{leads_joins, of_ends, of, tree, apart, steps_within, walked}
 
 -- ---- values beside their nodes
@@ -149,15 +149,6 @@ module _ (net : Network) (piece : PieceLists) (h : IsInNet net piece) where
       (are.rows_fit given.gives.0 given.gives.1)
 
 -- ---- what the calls need
-
-in_list : {A : Type 0} (xs : List A) (i : ℕ) (d : A) → i < length xs → IsIn (slice_index_or xs i d) xs
-in_list [] i d l = absurd (omega arith)
-in_list (x ∷ xs) zero d l = inl refl
-in_list (x ∷ xs) (suc i) d l = inr (in_list xs i d (omega arith))
-
-num_apart : (r : Ratio) → r ≢ zero_ratio → r.num ≢ pos 0
-unfolding ratio.whole
-num_apart r n e = n (same_parts r zero_ratio (rw e (omega arith)))
 
 module _ (full : FullNet) (phase : Phase) (nodes : List (ℕ × Ratio)) (basics : List (ℕ × Ends × Ratio)) (marks : List (ℕ × Mark)) (h : IsInNet (phase_net phase full) (piece_of nodes basics marks)) where
   abbrev net : Network

@@ -45,7 +45,7 @@ use Rattle.tree_search.proofs.Trees.{one_place, ends_is}
 use Rattle.tree_potentials.specs.Along.{costs_in, IsWithin, overflow_at_turn, in_row, ◌▸◌, spread, root_of, first_place, but_last, walk_off_end, walk_off_cycle, walk_off, EndFits}
 use Rattle.tree_potentials.specs.Answers.{ArePotentials, IsOverflow}
 use Rattle.tree_potentials.proofs.Links.{Crosses, pull_is, end_is}
-use Rattle.tree_potentials.proofs.Results.{is_ok_of}
+use Rattle.np_frac.proofs.Results.{is_ok_of}
 use Rattle.tree_potentials.proofs.Rounds.{root_is, root_found, root_refused}
 use Rattle.tree_potentials.proofs.Carried as carried
 

@@ -6,7 +6,6 @@ use Rattle.np_frac.specs.Fits.{Fits}
 use Rattle.np_frac.specs.Exact.{minus_of, over_of, ◌▷◌}
 use Rattle.np_frac.specs.declared.frac.Past.{Past}
 use Rattle.np_model.specs.declared.arc.Ends.{Ends}
-use Rattle.np_model.specs.declared.arc.Ends.TheVariants.{Link, Drain, Feed}
 use Rattle.np_model.specs.declared.rows.Row.{Row}
 use Rattle.np_model.specs.declared.rows.Row.TheVariants.{A3, A7}
 use Rattle.np_model.specs.declared.rows.Place.TheVariants.{Turn}
@@ -17,15 +16,9 @@ use Rattle.tree_search.specs.declared.piece.Step.{Step}
 use Rattle.tree_search.specs.declared.piece.Joint.{Joint}
 use Rattle.tree_search.specs.declared.piece.ExtraArc.{ExtraArc}
 use Rattle.tree_search.specs.declared.piece.ExtraArc.TheVariants as found
-use Rattle.tree_search.specs.Places.{numbers_of_nodes, ends_by_place, loose}
+use Rattle.tree_search.specs.Places.{numbers_of_nodes, ends_by_place, loose, HasGain}
 
 -- ---- what the operations need
-
--- the gain of a link is not 0
-abbrev pub HasGain : Ends → Type 0
-HasGain (Link from to gain) = gain.num ≢ pos 0
-HasGain (Drain node) = ⊤
-HasGain (Feed node) = ⊤
 
 -- what these arcs cost, by their numbers
 abbrev pub costs_in : (ℕ → Ratio) → List (ℕ × Ends × Ratio) → List Ratio

@@ -9,6 +9,3 @@ mod setting;
 
 pub use refusal::PotentialRefusal;
 pub use setting::potentials;
-
-#[cfg(test)]
-mod tests;

@@ -3,12 +3,12 @@
 ghost use Rattle.std.specs.Prelude.{◌≡◌, ◌<◌, ℕ, length, slice_index};
 ghost use Rattle.np_model.specs.Network.Flows.{at};
 ghost use Rattle.np_model.specs.Rows.Potentials.{across, scaled_across, end_potential};
-ghost use Rattle.tree_search.specs.Places.{numbers_of_nodes, ends_by_place};
-ghost use Rattle.tree_potentials.specs.Along.{HasGain, AreWalkable, IsWithin};
+ghost use Rattle.tree_search.specs.Places.{numbers_of_nodes, ends_by_place, HasGain};
+ghost use Rattle.tree_potentials.specs.Along.{AreWalkable, IsWithin};
 
 use np_frac::{Frac, Past};
 use np_model::Ends;
-use tree_search::Step;
+use tree_search::{Step, node_of};
 
 // The potential at the other end of an arc of reduced cost 0, from the one at this node.
 fn potential_across(ends: Ends, cost: Frac, node: u32, potential: Frac) -> Result<Frac, Past>
@@ -54,14 +54,6 @@ fn potential_at_end(ends: Ends, cost: Frac) -> Frac
         Ends::Feed(_) => cost.negated(),
         _ => cost,
     }
-}
-
-// The number of the node at a place.
-fn node_of(nodes: &[(u32, Frac)], place: u32) -> u32
-    requires { place < length nodes.now }
-    ensures { result ≡ slice_index (numbers_of_nodes nodes.now) place }
-{
-    nodes[place as usize].0
 }
 
 // The lists of a piece that its rows read: its nodes and its basic arcs, and what each of these arcs costs.

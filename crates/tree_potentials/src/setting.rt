@@ -2,7 +2,7 @@
 
 ghost use Rattle.std.specs.Prelude.{◌≡◌, ◌≢◌, ◌<◌, ◌^◌, ℕ, length, slice_index_or, List, Ok, Err, MatchResult, IfOk, IfErr, pos};
 ghost use Rattle.std.specs.List.{All};
-ghost use Rattle.np_frac.specs.Ratio.{Ratio, zero_ratio};
+ghost use Rattle.np_frac.specs.Ratio.{Ratio};
 ghost use Rattle.np_frac.specs.Exact.{◌▷◌};
 ghost use Rattle.np_frac.specs.Fits.{Fits};
 ghost use Rattle.np_frac.specs.declared.frac.Past.{Past as ThePast};
@@ -24,7 +24,7 @@ use crate::cycle::least_potential;
 use crate::refusal::{PotentialRefusal, at_turn};
 use crate::rows::Rows;
 use np_frac::{Frac, Memory, Past};
-use np_model::{Ends, FullNet, Overflow, Phase, Row};
+use np_model::{Ends, FullNet, Overflow, Phase, Row, zeros};
 use quasi_tree::Quasi;
 use std::alloc::Global;
 use tree_search::{ExtraArc, Joint, Step, arcs_at_nodes, find_extra, joints_of, search_off};
@@ -44,17 +44,6 @@ fn costs_of(
         costs.push(full.cost(phase, arc.0))?;
     }
     Ok(costs)
-}
-
-// Potentials that are all 0.
-fn zeros(alloc: Global, nodes: usize) -> Result<Vec<Frac>, Memory>
-    ensures { IfOk result (λ list. length list.items ≡ nodes) }
-{
-    let mut list = Vec::with_capacity(alloc, nodes)?;
-    for _ in 0..nodes {
-        list.push(Frac::whole(0))?;
-    }
-    Ok(list)
 }
 
 // Carries the potentials along two lists of steps, one after the other.

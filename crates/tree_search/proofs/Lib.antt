@@ -9,5 +9,4 @@ pub mod Placed
 pub mod Hanging
 pub mod Rounded
 pub mod Finds
-pub mod Starred
 pub mod Leading

@@ -1,5 +1,5 @@
 -- A piece by places: an ascending list of nodes, and an ascending list of basic arcs with their ends. (This project's own.)
-use Rattle.std.specs.Prelude.{◌≡◌, ◌↔◌, ◌<◌, ℕ, List, map, length, slice_index, slice_index_or}
+use Rattle.std.specs.Prelude.{◌≡◌, ◌≢◌, ◌↔◌, ◌<◌, ⊤, ℕ, pos, List, map, length, slice_index, slice_index_or}
 use Rattle.std.specs.List.Sorted.{IsStrictlyIncreasing}
 use Rattle.gain_graphs.specs.Arcs.{IsIn}
 use Rattle.gain_graphs.specs.Cycles.{IsNoLoop}
@@ -37,6 +37,12 @@ ends_by_place basics a = (slice_index_or basics a blank).1
 -- these are the ends of the arcs, by their numbers
 abbrev pub AreEndsOf : (ℕ → Ends) → List (ℕ × Ends × Ratio) → Type 0
 AreEndsOf ends basics = (b : ℕ × Ends × Ratio) → IsIn b basics → ends b.0 ≡ b.1
+
+-- the gain of a link is not 0
+abbrev pub HasGain : Ends → Type 0
+HasGain (Link from to gain) = gain.num ≢ pos 0
+HasGain (Drain at) = ⊤
+HasGain (Feed at) = ⊤
 
 -- ---- places
 

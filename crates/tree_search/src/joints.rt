@@ -1,6 +1,6 @@
 //! The places of the ends of arcs.
 
-ghost use Rattle.std.specs.Prelude.{◌≡◌, ◌<◌, ◌^◌, ℕ, length, IfOk};
+ghost use Rattle.std.specs.Prelude.{◌≡◌, ◌<◌, ◌^◌, ℕ, length, slice_index, IfOk};
 ghost use Rattle.std.specs.List.{All};
 ghost use Rattle.std.specs.List.Sorted.{IsStrictlyIncreasing};
 ghost use Rattle.tree_search.specs.Places.{numbers_of_nodes, IsPlaceOf, HasPlace, EndsHavePlaces, IsJoint, AreJoints};
@@ -10,6 +10,14 @@ use crate::piece::Joint;
 use np_frac::{Frac, Memory};
 use np_model::Ends;
 use std::alloc::Global;
+
+/// The number of the node at a place.
+pub fn node_of(nodes: &[(u32, Frac)], place: u32) -> u32
+    requires { place < length nodes.now }
+    ensures { result ≡ slice_index (numbers_of_nodes nodes.now) place }
+{
+    nodes[place as usize].0
+}
 
 // The place of a node in the ascending list.
 fn place_of(nodes: &[(u32, Frac)], node: u32) -> u32

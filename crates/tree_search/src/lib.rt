@@ -15,11 +15,8 @@ mod round;
 mod search;
 
 pub use find::find_extra;
-pub use joints::joints_of;
+pub use joints::{joints_of, node_of};
 pub use marks::marks_of;
 pub use off::search_off;
 pub use piece::{ExtraArc, Joint, Step};
 pub use search::{Incidence, Search, arcs_at_nodes, search_from};
-
-#[cfg(test)]
-mod tests;

@@ -17,4 +17,3 @@ pub mod GoingHome
 pub mod Deciding
 pub mod Members
 pub mod Seen
-pub mod OnePivot

@@ -1,6 +1,5 @@
--- What only this crate's own functions, proofs and tests need.
+-- What only this crate's own functions and proofs need.
 pub mod Tokens
 pub mod Kept
 pub mod Room
 pub mod Closing
-pub mod Tests

@@ -12,8 +12,6 @@ mod rule;
 mod set_up;
 mod steps;
 mod table;
-#[cfg(test)]
-mod tests;
 mod view;
 
 pub use calls::{Taken, TakenTwo};

@@ -3,7 +3,8 @@ use Rattle.std.specs.List.{range_with_len}
 use Rattle.np_model.specs.Basis.Phases.{phase_net, real_arcs}
 use Rattle.arc_pricing.specs.Prices.{is_eligible}
 use Rattle.arc_pricing.specs.Candidates.{values_by, cyclic}
-use Rattle.arc_pricing.proofs.Order.{joined, has_all, behind, cyclic_is, range_within}
+use Rattle.gain_graphs.proofs.Lists.{range_within}
+use Rattle.arc_pricing.proofs.Order.{joined, has_all, behind, cyclic_is}
 use Rattle.arc_pricing.proofs.scan.candidates.Goals as goal
 
 pub returns-in-Ok-clause-all : goal.returns-in-Ok-clause-all

@@ -1,7 +1,8 @@
 use Rattle.std.proofs.Common.{◌∙◌, sym}
 use Rattle.np_frac.specs.Ratio.{zero_ratio, negated, ◌<ᵣ◌}
 use Rattle.np_frac.proofs.RatioLaws.{is_below_true}
-use Rattle.ratio_test.proofs.Bounds.{apart, num_apart, opposite_above}
+use Rattle.np_frac.proofs.Parts.{num_apart}
+use Rattle.ratio_test.proofs.Bounds.{apart, opposite_above}
 use Rattle.ratio_test.proofs.limit.limit_of.Goals as goal
 
 pub limit_up-requires : goal.limit_up-requires

@@ -34,11 +34,11 @@ returns-in-Ok c = λ marks h.
     on_ok _ _ _ c.in-Ok.found.items
     (answered c.args.full.now c.args.phase c.args.nodes.now c.args.basics.now marks h c.as_slice-joints.result.now c.as_slice-costs.result.now c.as_slice.result.now c.in_ok-extra.extra _ c.in_ok-search.search c.in_ok-start.start.items
     (c.as_slice-costs.ensures.value ∙ c.in_ok-cost_list.ensures) c.as_slice.ensures.value (subst (AreJoints (numbers_of_nodes c.args.nodes.now) c.args.basics.now) (sym c.as_slice-joints.ensures.value) c.in_ok-joint_list.ensures.joints)
-    c.in_ok-extra.ensures.found c.in_ok-search.ensures.found c.in_ok-search.ensures.closed c.in_ok-start.ensures c.in-Ok.ensures.fits) c.in-Ok.ensures.walked
+    c.in_ok-extra.ensures.found c.in_ok-search.ensures.found c.in_ok-search.ensures.closed c.in_ok-start.ensures.long c.in-Ok.ensures.fits) c.in-Ok.ensures.walked
 
 pub returns : goal.returns
 returns c = λ marks h.
     on_err _ _ _ c.in-Err.overflow
     (answered c.args.full.now c.args.phase c.args.nodes.now c.args.basics.now marks h c.as_slice-joints.result.now c.as_slice-costs.result.now c.as_slice.result.now c.in_ok-extra.extra _ c.in_ok-search.search c.in_ok-start.start.items
     (c.as_slice-costs.ensures.value ∙ c.in_ok-cost_list.ensures) c.as_slice.ensures.value (subst (AreJoints (numbers_of_nodes c.args.nodes.now) c.args.basics.now) (sym c.as_slice-joints.ensures.value) c.in_ok-joint_list.ensures.joints)
-    c.in_ok-extra.ensures.found c.in_ok-search.ensures.found c.in_ok-search.ensures.closed c.in_ok-start.ensures c.in-Err.ensures.fits) c.in-Err.ensures.walked
+    c.in_ok-extra.ensures.found c.in_ok-search.ensures.found c.in_ok-search.ensures.closed c.in_ok-start.ensures.long c.in-Err.ensures.fits) c.in-Err.ensures.walked

@@ -1,5 +1,0 @@
-use Rattle.piece_lists.proofs.SmallPieces.{both_stand}
-use Rattle.piece_lists.proofs.tests.two_pieces.Goals as goal
-
-pub pieces_over-requires-clause-stand : goal.pieces_over-requires-clause-stand
-pieces_over-requires-clause-stand g c = both_stand c.whole-one.result c.whole-two.result

@@ -1,0 +1,15 @@
+pub mod Started
+pub mod FiveNodes
+pub mod TwoNodes
+pub mod OneNode
+pub mod OnePivot
+pub mod FirstStart
+pub mod TwoLinks
+pub mod NodesAlone
+pub mod BetweenTwo
+pub mod StageOne
+pub mod Single
+pub mod SmallPieces
+pub mod Starred
+pub mod BothWays
+pub mod FiveTree
