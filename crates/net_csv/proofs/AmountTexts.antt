@@ -5,11 +5,11 @@ use Rattle.std.proofs.Common.{refl, arith, sym, inl, inr}
 use Rattle.std.proofs.lemmas.Bool.{cases_Bool}
 use Rattle.std.proofs.lemmas.Fmt.{decimal_is_IsNumeral_wide}
 use Rattle.np_frac.specs.Ratio.{Ratio}
-use Rattle.np_frac.specs.Text.{point}
+use Rattle.np_frac.specs.Text.{point, minus_sign}
 use Rattle.np_frac.specs.Amount.{amount_of, is_short, is_decimal, is_amount, is_amount_text}
 use Rattle.np_frac.proofs.AmountTexts.{signed_text, Writes, short_writes, decimal_writes, decimal_if_not_short}
 use Rattle.np_frac.proofs.TextTests.{amount-is}
-use Rattle.net_csv.specs.AmountText.{minus_sign, billionths, nine_digits, decimal_form, amount_text}
+use Rattle.net_csv.specs.AmountText.{billionths, nine_digits, decimal_form, amount_text}
 
 pub decimal_some : (n : ℕ) → n < 10 ^ 64 → 1 ≤ length (decimal n)
 decimal_some n wide = let some = (decimal_is_IsNumeral_wide n wide).0.0 in omega arith

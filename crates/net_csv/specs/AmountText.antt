@@ -1,14 +1,9 @@
 -- The texts of amounts, as network texts are printed. (This project's own.)
-use Rattle.std.specs.Prelude.{ℕ, ◌+◌, ◌*◌, ◌/◌, ◌%◌, ◌^◌, ℤ, pos, negsuc, unsigned_abs, List, [], ◌∷◌, ◌++◌, drop, codes, if◌then◌else◌}
+use Rattle.std.specs.Prelude.{ℕ, ◌+◌, ◌*◌, ◌/◌, ◌%◌, ◌^◌, unsigned_abs, List, [], ◌∷◌, ◌++◌, drop, if◌then◌else◌}
 use Rattle.std.specs.Fmt.{decimal}
 use Rattle.np_frac.specs.Ratio.{Ratio}
-use Rattle.np_frac.specs.Text.{point, printed}
+use Rattle.np_frac.specs.Text.{point, minus_sign, printed}
 use Rattle.np_frac.specs.Amount.{is_short}
-
--- a `-` for a number below 0
-abbrev pub minus_sign : ℤ → List ℕ
-minus_sign (pos n) = []
-minus_sign (negsuc n) = codes "-"
 
 -- the size of a ratio in billionths
 abbrev pub billionths : Ratio → ℕ

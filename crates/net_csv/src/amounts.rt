@@ -2,10 +2,10 @@
 
 ghost use Rattle.std.specs.Prelude.{◌≡◌, ◌<◌, ◌^◌, ◌++◌, true, OnOk, OnErr};
 ghost use Rattle.np_frac.specs.Amount.{is_amount, is_short, is_decimal};
-ghost use Rattle.net_csv.specs.AmountText.{minus_sign, billionths, decimal_form, amount_text};
+ghost use Rattle.net_csv.specs.AmountText.{billionths, decimal_form, amount_text};
 
 use itoa::Buffer;
-use np_frac::{Frac, Memory, write_frac};
+use np_frac::{Frac, Memory, minus_sign, write_frac};
 
 const BILLION: u128 = 1_000_000_000;
 
@@ -18,13 +18,6 @@ fn is_short(value: Frac) -> bool
 {
     value.num().unsigned_abs() < 1_000_000_000_000_000_000
         && value.den() < 10_000_000_000_000_000_000
-}
-
-// The sign of a text, which also a whole part of 0 needs.
-fn minus_sign(value: Frac) -> &'static [u8]
-    ensures { result.now ≡ minus_sign value.num }
-{
-    if value.num() < 0 { b"-" } else { b"" }
 }
 
 // The size in billionths.

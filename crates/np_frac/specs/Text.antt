@@ -1,5 +1,5 @@
 -- The texts of ratios.
-use Rattle.std.specs.Prelude.{◌≡◌, ℕ, ◌==◌, ◌&&◌, ◌||◌, ◌^◌, ◌<◌, ◌≤◌, nat_lt, nat_le, Bool, true, ℤ, pos, neg_ℤ, List, [], ◌∷◌, ◌++◌, length, drop, if◌then◌else◌}
+use Rattle.std.specs.Prelude.{◌≡◌, ℕ, ◌==◌, ◌&&◌, ◌||◌, ◌^◌, ◌<◌, ◌≤◌, nat_lt, nat_le, Bool, true, ℤ, pos, negsuc, neg_ℤ, List, [], ◌∷◌, ◌++◌, length, drop, codes, if◌then◌else◌}
 use Rattle.std.specs.List.{before_first, list_all, position_or_len}
 use Rattle.std.specs.Char.{is_ascii_digit}
 use Rattle.std.specs.Str.Parse.{IsNumeral, digits_value, starts_with_minus}
@@ -17,6 +17,11 @@ abbrev pub is_mark : ℕ → Bool
 is_mark c = (c == point) || (c == stroke)
 
 -- ---- the printed form
+
+-- a `-` for a number below 0
+abbrev pub minus_sign : ℤ → List ℕ
+minus_sign (pos n) = []
+minus_sign (negsuc n) = codes "-"
 
 -- the numerator, and behind a stroke the denominator where that is not 1
 abbrev pub printed : Ratio → List ℕ

@@ -17,4 +17,4 @@ pub use amount::read_amount;
 pub use digits::read_number;
 pub use frac::{Frac, Op, Past};
 pub use memory::Memory;
-pub use text::{read_frac, write_frac};
+pub use text::{minus_sign, read_frac, write_frac};

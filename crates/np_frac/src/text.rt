@@ -3,7 +3,7 @@
 ghost use Rattle.std.specs.Prelude.{◌≡◌, ◌≤◌, ◌<◌, ◌^◌, ◌++◌, OnOk, OnErr, IfSome};
 ghost use Rattle.std.specs.Option.{SomeIff};
 ghost use Rattle.np_frac.specs.Fits.{Fits};
-ghost use Rattle.np_frac.specs.Text.{printed, IsFraction, fraction_of, IsFractionEnd, fraction_lower as lower_of};
+ghost use Rattle.np_frac.specs.Text.{minus_sign, printed, IsFraction, fraction_of, IsFractionEnd, fraction_lower as lower_of};
 
 use crate::digits::{read_part, split_at_mark, with_sign, without_minus};
 use crate::frac::Frac;
@@ -12,6 +12,13 @@ use itoa::Buffer;
 
 /// Room for a printed form: two numbers of at most 40 bytes, as `itoa` prints them, and the stroke between them.
 const LONGEST: usize = 81;
+
+/// The sign before the digits of a text: `-` where the value is below 0, and nothing else.
+pub fn minus_sign(value: Frac) -> &'static [u8]
+    ensures { result.now ≡ minus_sign value.num }
+{
+    if value.num() < 0 { b"-" } else { b"" }
+}
 
 /// Appends the printed form: the numerator of the lowest terms, with `-` where it is below 0, and `/` and the
 /// denominator where that is not 1. After [`Memory`] the text is as it was.
