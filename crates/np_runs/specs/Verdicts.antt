@@ -107,7 +107,7 @@ EndedFits = (net : Network) (budget : ℕ) (x : Outcome) → IsNet net.supply ne
 
 -- ---- an example
 
--- a node alone with a supply that is not 0 ends infeasible at once, whatever the budget
+-- a node alone with a supply that fits and is not 0 ends infeasible at once, whatever the budget
 abbrev pub NodeAloneEnds : Type 0
-NodeAloneEnds = (supply : Ratio) (budget : ℕ) → supply ≢ zero_ratio
+NodeAloneEnds = (supply : Ratio) (budget : ℕ) → Fits supply → supply ≢ zero_ratio
     → IsEnded (node_alone supply) budget (outcome.Infeasible (start_potential (node_alone supply) 0 ∷ []) (record { turned = None; entries = [] }))

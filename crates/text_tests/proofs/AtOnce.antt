@@ -3,6 +3,7 @@ use Rattle.std.specs.Prelude.{◌≡◌, negsuc, None, List, [], ◌∷◌, if�
 use Rattle.std.proofs.Common.{refl, sym, ap, subst, ◌∙◌, arith}
 use Rattle.np_frac.specs.Ratio.{Ratio, whole, zero_ratio, one_ratio, negated, is_below, same_numbers}
 use Rattle.np_frac.proofs.RatioLaws.{minus-zero}
+use Rattle.np_frac.proofs.Wholes.{whole_fits}
 use Rattle.np_model.specs.declared.log.Entry.{Entry}
 use Rattle.np_model.specs.declared.outcome.Outcome.TheVariants as outcome
 use Rattle.np_model.specs.declared.scheme.Scheme.{Scheme}
@@ -28,7 +29,7 @@ pub ends_at_once : NodeAloneEnds → (scheme : Scheme) (prices : List Ratio) (en
     → prices ≡ whole (negsuc 0) ∷ [] → entries ≡ [] → HasEnded scheme (outcome.Infeasible prices (record { turned = None; entries = entries }))
 ends_at_once law scheme prices entries alone prices_are none =
     let ended : IsEnded (node_alone (whole (negsuc 4))) 0 (outcome.Infeasible (start_potential (node_alone (whole (negsuc 4))) 0 ∷ []) (record { turned = None; entries = [] })) =
-    law (whole (negsuc 4)) 0 lacks
+    law (whole (negsuc 4)) 0 (whole_fits (negsuc 4) (omega arith)) lacks
     in (
       0,
       omega arith,
