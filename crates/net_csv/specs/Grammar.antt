@@ -43,7 +43,7 @@ is_end r = is_kind r (codes "end")
 abbrev pub body_of : List (List (List ℕ)) → List (List (List ℕ))
 body_of rows = before_first is_end (drop 2 rows)
 
--- a record behind `end`: it may be one of a plan text, where one is to come
+-- a record behind `end`: it may be one of a plan text, where one follows
 abbrev pub after_fault : Tail → Option Code
 after_fault tail.Nothing = Some code.AfterEnd
 after_fault tail.Plan = None

@@ -123,7 +123,7 @@ fn push_band(flow: &mut Flow, band: Band) -> Result<(), Memory>
 }
 
 impl Draft {
-    /// Nothing yet, in so many periods.
+    /// No records, over so many periods.
     pub(crate) fn new(alloc: Global, periods: u32) -> Draft
         ensures { result ≡ no_tables periods }
     {
@@ -137,7 +137,7 @@ impl Draft {
         }
     }
 
-    // TakesRecord a node record.
+    // Takes a node record.
     fn node(&mut self, alloc: Global, row: &ByteRecord) -> Result<(), Stop>
         requires { HasRoom self.old }
         ensures { TakesRecord result (node_fault self.old.periods self.old.nodes (fields_of row.now)) self.new
@@ -159,7 +159,7 @@ impl Draft {
         Ok(())
     }
 
-    // TakesRecord a supply record.
+    // Takes a supply record.
     fn supply(&mut self, row: &ByteRecord) -> Result<(), Stop>
         requires { HasRoom self.old }
         ensures { TakesRecord result (supply_fault self.old.periods self.old.nodes (fields_of row.now)) self.new
@@ -215,7 +215,7 @@ impl Draft {
         Ok(Head { kind, numbers })
     }
 
-    // TakesRecord the record of a flow.
+    // Takes the record of a flow.
     fn flow(&mut self, alloc: Global, row: &ByteRecord) -> Result<(), Stop>
         requires { HasRoom self.old }
         ensures { TakesRecord result (flow_fault self.old.periods self.old.nodes self.old.names self.old.arcs (fields_of row.now)) self.new
@@ -243,7 +243,7 @@ impl Draft {
         Ok(())
     }
 
-    // TakesRecord a piece record.
+    // Takes a piece record.
     fn piece(&mut self, row: &ByteRecord) -> Result<(), Stop>
         requires { HasRoom self.old }
         ensures { TakesRecord result (piece_fault self.old.periods self.old.names self.old.arcs self.old.flows (fields_of row.now)) self.new
@@ -256,7 +256,7 @@ impl Draft {
         self.band(place, Band { width, slope })
     }
 
-    /// TakesRecord a record of the body, other than `end`.
+    /// Takes a record of the body, other than `end`.
     pub(crate) fn take(&mut self, alloc: Global, row: &ByteRecord) -> Result<(), Stop>
         requires { HasRoom self.old }
         ensures { TakesRecord result (record_fault self.old.periods self.old.nodes self.old.names self.old.arcs self.old.flows (fields_of row.now)) self.new

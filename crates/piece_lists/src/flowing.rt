@@ -128,7 +128,7 @@ fn moved(
 /// leaves. The amounts are those of a direction, in ascending number of their arcs, which are basic or the one that enters.
 ///
 /// [`FlowRefusal::Past`] exactly where an operation of row A6 overflows, on whichever of the arcs that move, the one that leaves among them:
-/// the first one in ascending number of the arcs is told. Takes one pass over both lists.
+/// the first one in ascending number of the arcs is told. Takes time in proportion to both lists.
 pub fn flows_after(
     alloc: Global,
     basics: &[(u32, Ends, Frac)],

@@ -13,7 +13,7 @@ use quasi_tree::{FlowList, Lists, MarkList, NodeList};
 use std::alloc::Global;
 
 /// The lists of two pieces in one: each ascends, and has the entries of both. A link between the pieces is marked in both, and stands in it
-/// once. In one pass over the lists.
+/// once. Takes time in proportion to the lists.
 pub fn both(alloc: Global, first: &Lists, second: &Lists) -> Result<Lists, Memory>
     requires { CanBeOne (first.now.lists ∷ second.now.lists ∷ []) }
     ensures { IfOk result (λ one. AreInOne (first.now.lists ∷ second.now.lists ∷ []) one.lists) }

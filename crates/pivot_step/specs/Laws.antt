@@ -20,7 +20,7 @@ abbrev pub IsRefused : Network → ℕ → List PieceLists → ℕ → Type 0
 IsRefused net real pieces arc = PriceFits net real pieces arc × (¬ IsEligible net real (values_in net pieces) arc)
 
 -- an overflow, a refusal, a ray and a pivot exclude each other; the ray is one direction, and the pivot one entry with one list of pieces
--- after it (which of several operations that overflow is told is open)
+-- after it: an attempt has at most one of these answers (which of several operations that overflow is told is open)
 pub record HasOneAnswer (net : Network) (real : ℕ) (pieces : List PieceLists) (arc : ℕ) : Type 0 where
   pub overflow_or_refusal : (o : Overflow) → FirstOverflow net real pieces arc o → ¬ IsRefused net real pieces arc
   pub overflow_or_ray : (o : Overflow) (ray : Direction) → FirstOverflow net real pieces arc o → ¬ IsRay net real pieces arc ray

@@ -20,7 +20,7 @@ use tree_potentials::PotentialRefusal;
 /// The stage that is due.
 #[derive(Drop)]
 pub(crate) enum Due {
-    /// The run goes on; it has turned behind so many entries, or not yet.
+    /// The run goes on; it has turned behind so many entries, or has not turned.
     Live(Option<u32>),
     /// The turn is due, and an operation of the potentials overflows.
     Past(Overflow),

@@ -36,8 +36,9 @@ fn unit(up: bool) -> Frac
 /// Ahuja, Magnanti and Orlin, Network Flows, chapter 15.
 ///
 /// The amounts go inwards from the far nodes of each piece to its extra arc, an arc with one end or a cycle, by row A4; where something
-/// comes to a node of the cycle, row A3 is what an amount of 1 on its first arc leaves at its least node. An operation on an amount or a sum
-/// of 0 is never made, so all arithmetic is on the way from the ends of the entering arc to the extra arcs.
+/// comes to a node of the cycle, row A3 is what an amount of 1 on its first arc leaves at its least node. On a tree no operation
+/// is made on an amount or a sum of 0, so its arithmetic is on the way from the ends of the entering arc to the extra arcs; round a cycle there may
+/// be some.
 ///
 /// [`DirRefusal::Past`] exactly where an operation of these rows overflows on one of the pieces. Its place is
 /// [`Place::Arc`](np_model::Place) of the entering arc. The piece with the lesser least node comes first. All lists are made before the

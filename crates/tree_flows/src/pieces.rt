@@ -60,14 +60,14 @@ fn piece_amounts(
     )
 }
 
-// The entering arc alone, with room for so many arcs more.
+// The entering arc alone, with room for so many arcs more: nothing that is put behind it takes memory.
 fn begun(alloc: Global, entering: &Entering, more: usize) -> Result<Vec<(u32, Frac)>, Memory>
     ensures list { IfOk result (λ list. list.items ≡ (entering.now.arc, entering.now.amount) ∷ []) }
     ensures fits { Fits entering.now.amount }
 {
     // That it fits is told by its numerator.
     let _numerator = entering.amount.num();
-    let mut list = Vec::with_capacity(alloc, more)?;
+    let mut list = Vec::with_capacity(alloc, more.saturating_add(1))?;
     list.push((entering.arc, entering.amount))?;
     Ok(list)
 }

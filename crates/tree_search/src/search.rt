@@ -164,8 +164,8 @@ fn begin(alloc: Global, starts: &[u32], nodes: usize) -> Result<Search, Memory>
     Ok(Search { seen, queue, steps })
 }
 
-/// The nodes that can be reached from these, out of so many, and the steps to those that were not given: nearer nodes first, and at a
-/// node its arcs in ascending order.
+/// The nodes that can be reached from these, out of so many, and the steps to those that were not given. The search goes on from the
+/// nodes in the order in which they were reached, and at a node along its arcs in ascending order.
 pub fn search_from(
     alloc: Global,
     joints: &[Joint],
