@@ -94,7 +94,7 @@ amounts-put word names periods i place rows r kind named is within free =
           get_or-set_other (amounts_given word names periods rows) place k (fraction_in (field_of r 3)) None other ∙ amounts-at word names periods rows k None h ∙ sym (found-same (amount_for word names k) rows r gives)
     ]
 
--- nothing is given yet
+-- before any record nothing is given
 pub amounts-none : (n : ℕ) (word : List ℕ) (names : List (List ℕ)) (periods : ℕ) → n ≡ periods * length names → replicate n None ≡ amounts_given word names periods []
 amounts-none n word names periods e =
     rw e (fill_by_all (λ k. found (amount_for word names k) []) (replicate (periods * length names) None) (periods * length names) None

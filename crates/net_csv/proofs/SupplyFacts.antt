@@ -20,7 +20,7 @@ same_number n = grind (arith, nat_tests)
 covers-one : (g : Given) (p node period : ℕ) → g.period ≡ Some p → covers g node period ≡ ((g.node == node) && (p == period))
 covers-one g p node period e = rw e refl
 
--- an amount for one period, where none covers its place yet
+-- an amount for one period, where none behind it covers its place
 pub last-one : (periods nodes : ℕ) (each all : List (Option Ratio)) (g : Given) (p : ℕ) (later : List Given)
     → g.period ≡ Some p → 1 ≤ p → p ≤ periods → g.node < nodes → (p - 1) * nodes + g.node < length each
     → get_or all g.node None ≡ None → get_or each ((p - 1) * nodes + g.node) None ≡ None
