@@ -2,7 +2,7 @@
 
 ghost use Rattle.pivot_step.specs.Laws.{AnswersExclude, NoRayInStageOne};
 
-/// On the sound pieces that an arc needs an attempt has one answer, but for want of memory: an overflow, a refusal, a ray and a pivot
+/// On the sound pieces that an arc needs an attempt has at most one answer, but for want of memory: an overflow, a refusal, a ray and a pivot
 /// exclude each other, the ray is one direction, and the pivot has one entry and one list of pieces after it. In stage one there is no ray.
 pub fn answers()
     ensures exclude { AnswersExclude }

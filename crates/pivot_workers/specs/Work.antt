@@ -70,8 +70,8 @@ module _ (openings : List ℕ) where
     pub few : report.pivots ≤ quota
     pub ends : report.memory ≡ false → (left ≡ []) ⊎ (report.pivots ≡ quota)
 
--- several workers worked: the entries added enter some of their arcs, each at most as often as it stands there, and each worker made at most the
--- quota. With memory there was a take for each of their arcs, or one of them made its quota
+-- several workers worked: the entries added enter some of their arcs, each at most as often as it stands there, and there are at most as many as
+-- the quota for each worker. Where no want of memory is reported, there was a take for each of their arcs, or at least as many pivots as one quota
 pub record HaveWorked (p q : PassState) (arcs : List ℕ) (count quota : ℕ) (report : Report) : Type 0 where
   pub has_added : HasAdded p q report.pivots
   pub enters : AreAmong (entered has_added.added) arcs

@@ -18,7 +18,7 @@ use tree_table::{Pass, TreeTable};
 
 /// The work of so many workers, from this one on: one works with the pass, and of several one half works with it, and the other, at the same time
 /// where a thread can be made, with a pass that is forked from it and folded into it again. Where there is no memory for the fork, the work of that
-/// half is left undone, and the report says so.
+/// half is left undone: that there was a take for each arc, or a quota of pivots, is said only where the report tells no want of memory.
 #[cycle(crew)]
 pub(crate) fn crew<T: Piece, P: Pivoter<T>, G: Gate, R: Threads + Sync>(
     rt: &R,

@@ -25,7 +25,7 @@ use tree_table::{SetupRefusal, TreeTable};
 /// order in which the workers come. With one worker and memory they are those of a sweep over the list.
 ///
 /// Where there is not enough memory for the table, the pieces come back as they were; where there is not enough for some of the work, that is left
-/// undone, and the report says so.
+/// undone, and of what was done the clauses say no more than above.
 pub fn run_round<T: Piece, P: Pivoter<T>, G: Gate>(
     rt: &(impl Threads + Sync),
     alloc: Global,

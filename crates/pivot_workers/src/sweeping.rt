@@ -4,7 +4,7 @@ ghost use Rattle.pivot_workers.specs.SweepLaws.{SweepIsUnique};
 
 use pivot_step::laws::answers;
 
-/// What one worker alone makes of a list of arcs and a quota, on all pieces of a state, is one thing: 'exactly those of the sweep' names it.
+/// On all pieces of a state a list of arcs and a quota have at most one sweep: so 'those of the sweep' names one log, where there is one.
 pub fn sweeps()
     ensures unique { SweepIsUnique }
 {
