@@ -4,7 +4,7 @@
 //! the pieces are quasi-trees, trees of links with one arc more, which has one end or closes a cycle that is not breakeven. What a
 //! network simplex does at a pivot rests on the laws of such forests: potentials and flows exist and are unique on each piece, the arc
 //! more is one, and an exchange of arcs along a direction leaves a forest. They are the clauses of the functions in [`laws`]. No code
-//! has a value here: the crate is for the solver's proofs, and the program as it stands uses none of it.
+//! has a value here: the crate is for the solver's proofs, which cite its laws.
 //!
 //! Sources: R. K. Ahuja, T. L. Magnanti and J. B. Orlin, *Network Flows*, chapter 15 (generalised flows: augmented forests, good
 //! where each cycle is not breakeven); T. Zaslavsky, *Biased Graphs*, parts I and II (gain graphs, half edges, and the matroid whose bases
