@@ -1,4 +1,3 @@
 pub mod Store
 pub mod Place
 pub mod Start
-pub mod Laws

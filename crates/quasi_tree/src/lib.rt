@@ -2,7 +2,6 @@
 //! arcs that touch them.
 #![tactic(auto)]
 
-pub mod laws;
 mod lists;
 mod place;
 mod quasi;
