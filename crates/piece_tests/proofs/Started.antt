@@ -52,6 +52,8 @@ use Rattle.pivot_step.proofs.Beside.{swapped_sound, with_others}
 use Rattle.np_basis.proofs.Reading.{pieces_are_sound}
 use Rattle.np_basis.proofs.Starting.{start_is_state}
 use Rattle.np_basis.proofs.StartPieces.{start_piece_is_piece}
+use Rattle.quasi_tree.specs.Start.{piece_at_start}
+use Rattle.quasi_tree.specs.Laws.{PiecesByResiduals}
 
 -- ---- the start
 
@@ -81,13 +83,18 @@ residuals_fit net two fit left right v below =
     supplies (suc zero) l = right
     supplies (suc (suc v)) l = absurd (omega (arith, two))
 
-pub start_of_two : (net : Network) (basis : StartBasis) (p q : PieceLists) → length net.supply ≡ 2 → IsStart net basis → Fits (at net.supply 0) → Fits (at net.supply 1)
-    → p ≡ start_piece (network_of basis.full.net) 0 → q ≡ start_piece (network_of basis.full.net) 1 → AreSound (phase_net One basis.full) (p ∷ q ∷ [])
-start_of_two net basis p q two is left right e f =
-    subst (λ x. AreSound (phase_net One basis.full) (x ∷ q ∷ [])) (sym e) (subst (λ x. AreSound (phase_net One basis.full) (start_piece (network_of basis.full.net) 0 ∷ x ∷ [])) (sym f)
-    (start_is_sound basis.full (0 ∷ 1 ∷ []) (is.start.artificial_are ∙ ap artificial_ends (sym is.same)) (subst ResidualsFit (sym is.same) (residuals_fit net two is.start.residuals_fit left right))
+pub start_of_two : PiecesByResiduals → (net : Network) (basis : StartBasis) (p q : PieceLists) → length net.supply ≡ 2 → IsStart net basis → Fits (at net.supply 0) → Fits (at net.supply 1)
+    → p ≡ piece_at_start basis.full 0 → q ≡ piece_at_start basis.full 1 → AreSound (phase_net One basis.full) (p ∷ q ∷ [])
+start_of_two law net basis p q two is left right e f =
+    let first : p ≡ start_piece (network_of basis.full.net) 0 = e ∙ law basis.full 0 by_residuals (omega (arith, long)) in
+    let second : q ≡ start_piece (network_of basis.full.net) 1 = f ∙ law basis.full 1 by_residuals (omega (arith, long)) in
+    subst (λ x. AreSound (phase_net One basis.full) (x ∷ q ∷ [])) (sym first) (subst (λ x. AreSound (phase_net One basis.full) (start_piece (network_of basis.full.net) 0 ∷ x ∷ [])) (sym second)
+    (start_is_sound basis.full (0 ∷ 1 ∷ []) by_residuals (subst ResidualsFit (sym is.same) (residuals_fit net two is.start.residuals_fit left right))
     ((λ i. elim i [ inl z ↦ absurd (omega (arith, z)) | inr z ↦ z ]), ((λ i. i), record {})) below))
   where
+    by_residuals : basis.full.artificial ≡ artificial_ends (network_of basis.full.net)
+    by_residuals = is.start.artificial_are ∙ ap artificial_ends (sym is.same)
+
     long : length basis.full.net.supply ≡ 2
     long = ap (λ (n : Network). length n.supply) is.same ∙ two
 

@@ -25,6 +25,7 @@ use np_model::{
 };
 use pivot_step::{Change, TreePivoter, apply, prepare};
 use quasi_tree::Quasi;
+use quasi_tree::laws::starts;
 use std::alloc::Global;
 use std::test::Fail;
 use tree_potentials::potentials;
@@ -133,6 +134,7 @@ fn started(alloc: Global, net: &Net) -> Result<Start, Memory>
     let _right = supply_of(net, 1);
     match start(alloc, net) {
         Ok(basis) => {
+            starts();
             let first = Quasi::single(alloc, &basis, 0)?;
             let second = Quasi::single(alloc, &basis, 1)?;
             Ok(Start {

@@ -11,6 +11,7 @@ use np_frac::{Frac, Memory};
 use np_model::{
     Ends, EndsList, Fracs, FullNet, Mark, Net, NetArc, NetArcs, Piece, StartBasis, Upper,
 };
+use quasi_tree::laws::starts;
 use quasi_tree::{FlowList, Lists, MarkList, NodeList, Quasi};
 use std::alloc::Global;
 use std::test::Fail;
@@ -127,6 +128,7 @@ fn single(alloc: Global, node: u32) -> Result<Lists, Memory>
     requires { node < 2 }
 {
     let start = first_start(alloc)?;
+    starts();
     Ok(Quasi::single(alloc, &start, node)?.take_apart())
 }
 

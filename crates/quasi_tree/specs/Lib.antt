@@ -1,3 +1,4 @@
 pub mod Store
 pub mod Place
 pub mod Start
+pub mod Laws

@@ -2,6 +2,7 @@
 //! arcs that touch them.
 #![tactic(auto)]
 
+pub mod laws;
 mod lists;
 mod place;
 mod quasi;

@@ -71,11 +71,13 @@ impl Lists {
         })
     }
 
-    // The same lists.
-    pub(crate) fn copy(&self, alloc: Global) -> Result<Lists, Memory>
-        ensures { IfOk result (λ l. l.lists ≡ self.now.lists) }
+    // The same lists, with room for so many more nodes, each with a basic arc, and so many more marks.
+    pub(crate) fn copy(&self, alloc: Global, nodes: usize, marks: usize) -> Result<Lists, Memory>
+        ensures lists { IfOk result (λ l. l.lists ≡ self.now.lists) }
+        ensures nodes_fit { IfOk result (λ l. nodes ≤ l.node_spare) }
+        ensures marks_fit { IfOk result (λ l. marks ≤ l.mark_spare) }
     {
-        Ok(Lists {
+        let mut lists = Lists {
             nodes: NodeList {
                 items: Vec::from_slice(alloc, self.nodes.items.as_slice())?,
             },
@@ -85,6 +87,10 @@ impl Lists {
             marks: MarkList {
                 items: Vec::from_slice(alloc, self.marks.items.as_slice())?,
             },
-        })
+        };
+        lists.nodes.items.reserve(nodes)?;
+        lists.basics.items.reserve(nodes)?;
+        lists.marks.items.reserve(marks)?;
+        Ok(lists)
     }
 }

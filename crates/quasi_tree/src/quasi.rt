@@ -20,13 +20,12 @@ impl Model for Quasi {
     ghost invariant = { λ quasi. IsHeld quasi.lists.lists };
 }
 
-ghost use Rattle.std.specs.Prelude.{◌≡◌, ◌≢◌, ℕ, ◌<◌, ◌≤◌, ◌↔◌, ◌⊎◌, true, [], length, map, slice_index, slice_index_or, IfOk, OnOk};
+ghost use Rattle.std.specs.Prelude.{◌≡◌, ◌≢◌, ℕ, ◌<◌, ◌≤◌, ◌↔◌, ◌⊎◌, true, [], length, map, slice_index, slice_index_or, IfOk, OnOk, OnErr};
 ghost use Rattle.gain_graphs.specs.Arcs.{IsIn};
 ghost use Rattle.np_frac.specs.Ratio.{zero_ratio};
 ghost use Rattle.np_model.specs.declared.log.Mark.TheVariants as marked;
 ghost use Rattle.np_model.specs.Basis.Pieces.{nodes_in, basics_in, marked_in, least_node, beside, marks_of, flows_of, IsVacant};
-ghost use Rattle.np_model.specs.Basis.Phases.{network_of};
-ghost use Rattle.np_model.specs.Basis.Starts.{artificial_ends, start_flows, start_piece};
+ghost use Rattle.quasi_tree.specs.Start.{flows_at_start, piece_at_start};
 ghost use Rattle.quasi_tree.specs.Store.{IsHeld, with_potential, with_potentials, with_flow, with_mark};
 
 use crate::place::{basic_place, mark_place, node_place, put_values};
@@ -130,12 +129,12 @@ impl Quasi {
     }
 
     /// The piece of a node at the start: it stands alone with its artificial arc, and each arc that touches it is at its lower bound. The
-    /// potential is 1 where that arc is a drain, and -1 where it is a feed. Takes time in proportion to the arcs.
+    /// potential is 1 where that arc is a drain, and -1 where it is a feed. It asks that real arcs have the flows of their lower bounds, and each
+    /// artificial arc the one that balances its node. Takes time in proportion to the arcs.
     pub fn single(alloc: Global, start: &StartBasis, node: u32) -> Result<Quasi, Memory>
         requires is_node { node < length start.now.full.net.supply }
-        requires artificial { start.now.full.artificial ≡ artificial_ends (network_of start.now.full.net) }
-        requires flows { start.now.flows ≡ start_flows (network_of start.now.full.net) }
-        ensures { IfOk result (λ piece. piece.lists ≡ start_piece (network_of start.now.full.net) node) }
+        requires flows { start.now.flows ≡ flows_at_start start.now.full }
+        ensures { IfOk result (λ piece. piece.lists ≡ piece_at_start start.now.full node) }
     {
         let real = start.full.net.arcs.items.len();
         let potential = start_potential(&start.full.artificial.items[node as usize]);
@@ -164,15 +163,16 @@ impl Quasi {
         })
     }
 
-    /// Makes room for so many more nodes, each with a basic arc, and so many more marks. After [`Memory`] the piece is unchanged.
+    /// Makes room for so many more nodes, each with a basic arc, and so many more marks. After [`Memory`] the piece is unchanged, its room
+    /// too: the lists are made anew with that room, and only then take the place of the old ones.
     pub fn reserve(&mut self, nodes: u32, marks: u32) -> Result<(), Memory>
         ensures lists { self.new.lists ≡ self.old.lists }
         ensures nodes_fit { OnOk result (nodes ≤ self.new.node_spare) }
         ensures marks_fit { OnOk result (marks ≤ self.new.mark_spare) }
+        ensures err { OnErr result (self.new ≡ self.old) }
     {
-        self.lists.nodes.items.reserve(nodes as usize)?;
-        self.lists.basics.items.reserve(nodes as usize)?;
-        self.lists.marks.items.reserve(marks as usize)?;
+        let alloc = *self.lists.nodes.items.allocator();
+        self.lists = self.lists.copy(alloc, nodes as usize, marks as usize)?;
         Ok(())
     }
 
@@ -182,10 +182,7 @@ impl Quasi {
         ensures nodes_fit { IfOk result (λ piece. nodes ≤ piece.node_spare) }
         ensures marks_fit { IfOk result (λ piece. marks ≤ piece.mark_spare) }
     {
-        let mut lists = self.lists.copy(alloc)?;
-        lists.nodes.items.reserve(nodes as usize)?;
-        lists.basics.items.reserve(nodes as usize)?;
-        lists.marks.items.reserve(marks as usize)?;
+        let lists = self.lists.copy(alloc, nodes as usize, marks as usize)?;
         Ok(Quasi { lists })
     }
 }

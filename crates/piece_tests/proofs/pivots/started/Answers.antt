@@ -6,5 +6,5 @@ use Rattle.piece_tests.proofs.pivots.started.Goals as goal
 
 pub returns-in_ok-second-in-Ok : goal.returns-in_ok-second-in-Ok
 returns-in_ok-second-in-Ok c =
-    start_of_two (network_of c.args.net.now) c.in-Ok.basis c.in_ok-first-in-Ok.first.lists c.in_ok-second-in-Ok.second.lists c.requires
+    start_of_two c.starts.ensures.pieces (network_of c.args.net.now) c.in-Ok.basis c.in_ok-first-in-Ok.first.lists c.in_ok-second-in-Ok.second.lists c.requires
     (subst (IsAnswer (network_of c.args.net.now)) c.in-Ok.is c.start.ensures) c.supply_of-left.ensures.fits c.supply_of-right.ensures.fits c.in_ok-first-in-Ok.ensures c.in_ok-second-in-Ok.ensures

@@ -1,0 +1,9 @@
+//! The laws of the pieces of the start, as the clauses of a function that does nothing.
+
+ghost use Rattle.quasi_tree.specs.Laws.{FlowsByResiduals, PiecesByResiduals};
+
+/// Where the artificial arcs are those that the residuals ask for, the flows and the pieces of the start are those that the residuals give.
+pub fn starts()
+    ensures flows { FlowsByResiduals }
+    ensures pieces { PiecesByResiduals }
+{}
