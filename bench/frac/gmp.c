@@ -1,4 +1,4 @@
-/* The operations of bench_frac by GMP's rationals, on operands of the same sizes from the same generator. */
+/* The operations of bench_all fractions by GMP's rationals, on operands of the same sizes from the same generator. */
 #include <gmp.h>
 #include <stdint.h>
 #include <stdio.h>

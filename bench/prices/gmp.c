@@ -1,4 +1,4 @@
-/* The prices of bench_prices by GMP's rationals, on the same network, potentials and marks. */
+/* The prices of bench_all by GMP's rationals, on the same network, potentials and marks. */
 #include <gmp.h>
 #include <stdio.h>
 #include <stdlib.h>

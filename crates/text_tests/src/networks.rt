@@ -121,6 +121,17 @@ fn many_empty_lines(rt: HostRuntime) -> Result<(), Fail> {
 }
 
 #[test]
+fn no_bytes_and_no_last_line_end(rt: HostRuntime) -> Result<(), Fail> {
+    for tail in [Tail::Nothing, Tail::Plan] {
+        let got = fault(rt.alloc(), b"", tail)?;
+        assert!(rt; got == (1, b"NoEnd".as_slice()));
+        let got = fault(rt.alloc(), b"netplan,1\nperiods,1\nend", tail)?;
+        assert!(rt; got == (0, b"none".as_slice()));
+    }
+    Ok(())
+}
+
+#[test]
 fn what_stands_behind(rt: HostRuntime) -> Result<(), Fail> {
     let alloc = rt.alloc();
     let text = b"netplan,1\nperiods,1\nend\nnetplan-plan,1\nend\n";

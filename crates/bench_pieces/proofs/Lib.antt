@@ -1,4 +1,0 @@
-pub mod Trees
-pub mod Arcs
-pub mod Nets
-pub mod Parts

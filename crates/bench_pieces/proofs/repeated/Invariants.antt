@@ -1,7 +1,0 @@
-use Rattle.np_model.specs.declared.phase.Phase.TheVariants.{Two}
-use Rattle.np_model.specs.Basis.Phases.{phase_net}
-use Rattle.np_model.specs.Basis.Sound.{IsInNet}
-use Rattle.bench_pieces.proofs.repeated.Given as goal
-
-abbrev pub invariant-loop : goal.invariant-loop
-invariant-loop l = IsInNet (phase_net Two l.full) l.piece.lists

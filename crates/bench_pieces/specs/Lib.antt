@@ -1,2 +1,0 @@
--- The networks whose potentials are timed, and their pieces.
-pub mod Shapes

@@ -1,6 +1,0 @@
-use Rattle.std.specs.List.{All}
-use Rattle.np_model.specs.Network.Nets.{IsSoundArc}
-use Rattle.bench_pivot.proofs.network.arcs_of.Given as goal
-
-abbrev pub invariant-loop-turn : goal.invariant-loop-turn
-invariant-loop-turn l = All (IsSoundArc l.case.nodes) l.list.items
