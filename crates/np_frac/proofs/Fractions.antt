@@ -1,14 +1,14 @@
 -- Fractions in lowest terms.
-use Rattle.std.proofs.Common.{◌≡◌, ℕ, ◌<◌, ◌≤◌, ◌*◌, ◌/◌, ◌^◌, max, arith, sym, subst, ap, ◌∙◌, ℤ, pos, neg_ℤ, ◌*ℤ◌, unsigned_abs, to_z}
+use Rattle.std.proofs.Common.{◌≡◌, ℕ, ◌<◌, ◌≤◌, ◌*◌, ◌/◌, ◌^◌, max, arith, sym, subst, ap, ◌∙◌, ℤ, pos, neg_ℤ, ◌*ℤ◌, ◌<ℤ◌, ◌≤ℤ◌, unsigned_abs, to_z}
 use Rattle.std.specs.Int.{IsGcd, w128, ◌∣◌}
 use Rattle.std.proofs.Math.Nat.{dvd-mul_left, mul-div_cancel', pos_of_dvd_of_pos, mul-pos, div-le_self, le-max_left}
-use Rattle.std.proofs.lemmas.Int.{unsigned_abs-mul, to_z_pos}
+use Rattle.std.proofs.lemmas.Int.{ints, unsigned_abs-mul, to_z_pos}
 use Rattle.std.proofs.lemmas.Nat.Gcd.{le_of_dvd, IsGcd-swap}
 use Rattle.np_frac.specs.Fits.{Fit, Fits}
 use Rattle.np_frac.specs.Steps.Found.{IsReduced}
 use Rattle.np_frac.specs.Ratio.{Ratio, IsLowest, made, over_is, over_some, product_is, same_ratio, ◌*ᵣ◌}
 use Rattle.np_frac.specs.Steps.Signs.{unsigned_abs-neg, cross_trans, cross-products, up-*, down-*, from_cross}
-use borrow.Author.Differences.{up, down, same_in}
+use borrow.Author.Differences.{up, down, same_in, neg_is}
 use Rattle.np_frac.specs.Steps.Coprime.{coprime-quotients, coprime-products, coprime-divisors}
 
 pub Fit-neg : {z : ℤ} {d : ℕ} → Fit z d → Fit (neg_ℤ z) d
@@ -55,6 +55,25 @@ upper-divides a d x y r = subst (λ k. unsigned_abs x ∣ k) (sym (ap unsigned_a
 
 lower-divides : (a : ℤ) (d : ℕ) (x : ℤ) (y : ℕ) → IsReduced a d x y → y ∣ d
 lower-divides a d x y r = subst (λ k. y ∣ k) (sym r.den_is) (dvd-mul_left y r.factor)
+
+pub times_neg : (k : ℕ) (q : ℤ) → pos k *ℤ neg_ℤ q ≡ neg_ℤ (pos k *ℤ q)
+times_neg k q =
+    let m = neg_is q in
+    let n = neg_is (pos k *ℤ q) in
+    let a = ap (λ (t : ℕ). k * t) m.0 in
+    let b = ap (λ (t : ℕ). k * t) m.1 in
+    same_in _ _ (omega (arith, n, a, b, up-* (pos k) (neg_ℤ q), down-* (pos k) (neg_ℤ q), up-* (pos k) q, down-* (pos k) q))
+
+-- an exact quotient by its size and its sign
+pub quotient_below : (z : ℤ) (k : ℕ) → k ∣ unsigned_abs z → z <ℤ pos 0 → z ≡ pos k *ℤ neg_ℤ (pos (unsigned_abs z / k))
+quotient_below z k d h =
+    let e : k * (unsigned_abs z / k) ≡ unsigned_abs z = mul-div_cancel' k d in
+    omega (arith, ints, times_neg k (pos (unsigned_abs z / k)))
+
+pub quotient_not_below : (z : ℤ) (k : ℕ) → k ∣ unsigned_abs z → pos 0 ≤ℤ z → z ≡ pos k *ℤ pos (unsigned_abs z / k)
+quotient_not_below z k d h =
+    let e : k * (unsigned_abs z / k) ≡ unsigned_abs z = mul-div_cancel' k d in
+    same_in _ _ (simp (up-*, down-*) (omega (arith, ints)))
 
 -- the product of two fractions, cancelled across
 pub IsLowest-product : (a c : ℤ) (b d : ℕ) (x u : ℤ) (y v : ℕ) → IsLowest a b → IsLowest c d → IsReduced a d x y → IsReduced c b u v → IsLowest (x *ℤ u) (v * y)

@@ -6,20 +6,12 @@ use Rattle.std.specs.Int.RustNames.{int_div}
 use Rattle.std.proofs.Math.Nat.{one-dvd, mul_comm, mul-pos, dvd-mul_left, dvd-mul_right, div-one, mul-div_cancel'}
 use Rattle.std.proofs.lemmas.Int.{ints, unsigned_abs-mul}
 use Rattle.std.proofs.lemmas.Nat.Gcd.{dvd_refl, dvd_trans, IsGcd-swap}
-use borrow.Author.Differences.{same_in, neg_is}
+use borrow.Author.Differences.{same_in}
 use Rattle.np_frac.specs.Ratio.{Ratio, IsLowest}
 use Rattle.np_frac.specs.Steps.Coprime.{dvd_of_coprime, coprime-divisors, coprime-product, coprime-quotients, IsGcd-beside}
 use Rattle.np_frac.specs.Steps.Signs.{quot-exact, up-*, down-*, *ℤ-+ℤ}
 use Rattle.np_frac.proofs.SumParts.{SumParts}
-use Rattle.np_frac.proofs.Fractions.{gcd-some}
-
-times_neg : (k : ℕ) (q : ℤ) → pos k *ℤ neg_ℤ q ≡ neg_ℤ (pos k *ℤ q)
-times_neg k q =
-    let m = neg_is q in
-    let n = neg_is (pos k *ℤ q) in
-    let a = ap (λ (t : ℕ). k * t) m.0 in
-    let b = ap (λ (t : ℕ). k * t) m.1 in
-    same_in _ _ (omega (arith, n, a, b, up-* (pos k) (neg_ℤ q), down-* (pos k) (neg_ℤ q), up-* (pos k) q, down-* (pos k) q))
+use Rattle.np_frac.proofs.Fractions.{gcd-some, times_neg}
 
 -- what divides a sum and one of its parts divides the other
 dvd_rest : (k : ℕ) (u v : ℤ) → k ∣ unsigned_abs (u +ℤ v) → k ∣ unsigned_abs v → k ∣ unsigned_abs u

@@ -1,8 +1,8 @@
 -- Factors of two, and what they leave of a greatest common divisor.
 use Rattle.std.proofs.Common.{◌≡◌, ℕ, zero, suc, ◌*◌, ◌/◌, ◌%◌, ◌^◌, ◌<◌, ◌≤◌, min, Fits, arith, subst, sym, refl, ap, ◌∙◌, ◌-◌, ◌⊎◌, inl, inr}
-use Rattle.std.specs.Int.{IsGcd, bit_at, abs_diff, trailing_zeros, Width, w128}
+use Rattle.std.specs.Int.{IsGcd, ◌∣◌, bit_at, abs_diff, trailing_zeros, Width}
 use Rattle.std.proofs.lemmas.Nat.Bits.{bit_at-trailing_zeros}
-use Rattle.std.proofs.Math.Nat.{pow-suc, pow-succ', mul_assoc, mul_comm, div-div-eq-div-mul}
+use Rattle.std.proofs.Math.Nat.{pow-suc, pow-succ', mul_assoc, mul_comm, div-div-eq-div-mul, one-dvd, mod-eq_of_lt, lt_of_le_of_lt}
 use Rattle.std.proofs.lemmas.Nat.Gcd.{le_of_dvd, same_from_IsGcd, IsGcd-swap, IsGcd-from_sub, IsGcd-from_mod, IsGcd-from_zero}
 use Rattle.np_frac.specs.Steps.Coprime.{scales, IsGcd-beside}
 use Rattle.np_frac.specs.Steps.Odd.{IsOddPart}
@@ -36,6 +36,11 @@ IsGcd-twos x z g (suc k) odd h =
 
 pub IsGcd-odd_part : (x y m g : ℕ) → x % 2 ≡ 1 → IsOddPart y m → IsGcd x m g → IsGcd x y g
 IsGcd-odd_part x y m g odd p h = subst (λ n. IsGcd x n g) (sym p.product) (IsGcd-twos x m g p.twos odd h)
+
+-- 1 has no divisor but itself
+pub IsGcd-one : (a b : ℕ) → (a ≡ 1) ⊎ ((a ≡ 1 → ⊥) × (b ≡ 1)) → IsGcd a b 1
+IsGcd-one a b (inl e) = (one-dvd a, one-dvd b, λ d m n. subst (λ k. d ∣ k) e m)
+IsGcd-one a b (inr e) = (one-dvd a, one-dvd b, λ d m n. subst (λ k. d ∣ k) e.1 n)
 
 -- the greatest common divisor grows with the numbers
 pub IsGcd-grown : (a b g c : ℕ) → IsGcd a b g → IsGcd (c * a) (c * b) (c * g)
@@ -74,14 +79,13 @@ pub IsGcd-step : (x y m g : ℕ) → x % 2 ≡ 1 → IsOddPart y m → IsGcd (mi
 IsGcd-step x y m g odd p h = IsGcd-odd_part x y m g odd p (IsGcd-apart x m g h)
 
 -- numbers that were shifted, and their greatest common divisor shifted back
-pub IsGcd-shifted_back : (a b k g : ℕ) → 0 < a → Fits w128 a → a ≡ 2 ^ k * (a / 2 ^ k) → b ≡ 2 ^ k * (b / 2 ^ k) → IsGcd (a / 2 ^ k) (b / 2 ^ k) g → IsGcd a b (g * 2 ^ k % 2 ^ 128)
-IsGcd-shifted_back a b k g above fits p q h =
+pub IsGcd-shifted_back : (a b k g m : ℕ) → 0 < a → a < m → a ≡ 2 ^ k * (a / 2 ^ k) → b ≡ 2 ^ k * (b / 2 ^ k) → IsGcd (a / 2 ^ k) (b / 2 ^ k) g → IsGcd a b (g * 2 ^ k % m)
+IsGcd-shifted_back a b k g m above small p q h =
     let grown : IsGcd (2 ^ k * (a / 2 ^ k)) (2 ^ k * (b / 2 ^ k)) (2 ^ k * g) = IsGcd-grown (a / 2 ^ k) (b / 2 ^ k) g (2 ^ k) h in
     let shifted : IsGcd a b (2 ^ k * g) = subst (λ n. IsGcd a n (2 ^ k * g)) (sym q) (subst (λ n. IsGcd n (2 ^ k * (b / 2 ^ k)) (2 ^ k * g)) (sym p) grown) in
     let le : 2 ^ k * g ≤ a = le_of_dvd above shifted.0 in
-    let small : a < 2 ^ 128 = fits.fits in
-    let commuted : g * 2 ^ k ≡ 2 ^ k * g = mul_comm g (2 ^ k) in
-    let e : 2 ^ k * g ≡ g * 2 ^ k % 2 ^ 128 = omega arith in
+    let less : g * 2 ^ k < m = subst (λ n. n < m) (mul_comm (2 ^ k) g) (lt_of_le_of_lt le small) in
+    let e : 2 ^ k * g ≡ g * 2 ^ k % m = mul_comm (2 ^ k) g ∙ sym (mod-eq_of_lt less) in
     subst (λ n. IsGcd a b n) e shifted
 
 -- what is a multiple of 2 to the zeros of a number above 0
