@@ -6,10 +6,9 @@ use Rattle.std.specs.Int.RustNames.{int_div}
 use Rattle.std.proofs.Math.Nat.{one-dvd, mul_comm, mul-pos, dvd-mul_left, dvd-mul_right, div-one, mul-div_cancel'}
 use Rattle.std.proofs.lemmas.Int.{ints, unsigned_abs-mul}
 use Rattle.std.proofs.lemmas.Nat.Gcd.{dvd_refl, dvd_trans, IsGcd-swap}
-use borrow.Author.Differences.{same_in}
 use Rattle.np_frac.specs.Ratio.{Ratio, IsLowest}
 use Rattle.np_frac.specs.Steps.Coprime.{dvd_of_coprime, coprime-divisors, coprime-product, coprime-quotients, IsGcd-beside}
-use Rattle.np_frac.specs.Steps.Signs.{quot-exact, up-*, down-*, *ℤ-+ℤ}
+use Rattle.np_frac.specs.Steps.Signs.{quot-exact, *ℤ-+ℤ}
 use Rattle.np_frac.proofs.SumParts.{SumParts}
 use Rattle.np_frac.proofs.Fractions.{gcd-some, times_neg}
 

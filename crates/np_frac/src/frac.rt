@@ -6,7 +6,7 @@ ghost use Rattle.np_frac.specs.Fits.{Fit, Fits};
 ghost use Rattle.np_frac.specs.Steps.Found.{IsFound, IsSumFound};
 ghost use Rattle.np_frac.specs.Order.{ratio_cmp, ratio_eq};
 
-use crate::divisor::{gcd, reduced, reduced_by_shared};
+use crate::divisor::{gcd, quotient, reduced, reduced_by_shared};
 use crate::wide::{compare_products, lower_within, product_within, sum_within};
 use std::cmp::Ordering;
 use std::marker::Model;
@@ -183,7 +183,8 @@ impl Frac {
             return Frac::whole_sum(self.num, other.num);
         }
         let shared = gcd(self.den, other.den);
-        let (left_by, right_by) = (other.den / shared, self.den / shared);
+        let left_by = quotient(other.den, shared);
+        let right_by = quotient(self.den, shared);
         let common = lower_within(self.den, left_by)?;
         let left = product_within(self.num, left_by as i128)?;
         let right = product_within(other.num, right_by as i128)?;

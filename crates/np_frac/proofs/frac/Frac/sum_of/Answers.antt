@@ -13,14 +13,14 @@ use Rattle.np_frac.proofs.frac.Frac.sum_of.Goals as goal
 pub returns-in_err-common : goal.returns-in_err-common
 returns-in_err-common c = rw (c.from_residual.ensures, ← c.self.view_is, ← c.other.view_is) (λ h.
     let e = sum-common (made c.self.inside.num c.self.inside.den c.self.inside.lowest) (made c.other.inside.num c.other.inside.den c.other.inside.lowest) c.gcd-shared.result c.gcd-shared.ensures h in
-    c.in_err-common.ensures (rw (← e) h.common_fits))
+    c.in_err-common.ensures (rw (c.quotient-left_by.ensures, ← e) h.common_fits))
 
 pub returns-in_err-left : goal.returns-in_err-left
 returns-in_err-left c = rw (c.from_residual-in_err-left.ensures, ← c.self.view_is, ← c.other.view_is) (λ h.
     let fa : FitsSigned w128 c.self.inside.num = search rules in
     let e = sum-left (made c.self.inside.num c.self.inside.den c.self.inside.lowest) (made c.other.inside.num c.other.inside.den c.other.inside.lowest) c.gcd-shared.result c.gcd-shared.ensures h in
     let t = cast_quotient c.other.inside.den c.gcd-shared.result c.other.invariant.den_fits in
-    let k = rw t at (simp to_z-of_z at c.in_err-left.ensures) in
+    let k = rw (c.quotient-left_by.ensures, t) at (simp to_z-of_z at c.in_err-left.ensures) in
     k (rw (← e) h.left_fits))
 
 pub returns-in_err-right : goal.returns-in_err-right
@@ -28,7 +28,7 @@ returns-in_err-right c = rw (c.from_residual-in_err-right.ensures, ← c.self.vi
     let fb : FitsSigned w128 c.other.inside.num = search rules in
     let e = sum-right (made c.self.inside.num c.self.inside.den c.self.inside.lowest) (made c.other.inside.num c.other.inside.den c.other.inside.lowest) c.gcd-shared.result c.gcd-shared.ensures h in
     let t = cast_quotient c.self.inside.den c.gcd-shared.result c.self.invariant.den_fits in
-    let k = rw t at (simp to_z-of_z at c.in_err-right.ensures) in
+    let k = rw (c.quotient-right_by.ensures, t) at (simp to_z-of_z at c.in_err-right.ensures) in
     k (rw (← e) h.right_fits))
 
 pub returns-in_err-sum : goal.returns-in_err-sum
@@ -41,8 +41,8 @@ returns-in_err-sum c = rw (c.from_residual-in_err-sum.ensures, ← c.self.view_i
     let er = sum-right (made c.self.inside.num c.self.inside.den c.self.inside.lowest) (made c.other.inside.num c.other.inside.den c.other.inside.lowest) c.gcd-shared.result c.gcd-shared.ensures h in
     let tl = cast_quotient c.other.inside.den c.gcd-shared.result c.other.invariant.den_fits in
     let tr = cast_quotient c.self.inside.den c.gcd-shared.result c.self.invariant.den_fits in
-    let kl = rw tl at (simp to_z-of_z at c.in_ok-left.ensures.1) in
-    let kr = rw tr at (simp to_z-of_z at c.in_ok-right.ensures.1) in
+    let kl = rw (c.quotient-left_by.ensures, tl) at (simp to_z-of_z at c.in_ok-left.ensures.1) in
+    let kr = rw (c.quotient-right_by.ensures, tr) at (simp to_z-of_z at c.in_ok-right.ensures.1) in
     let k = simp to_z-of_z at c.in_err-sum.ensures in
     let pl : h.left ≡ c.in_ok-left.left = el ∙ sym kl in
     let pr : h.right ≡ c.in_ok-right.right = er ∙ sym kr in
@@ -50,7 +50,7 @@ returns-in_err-sum c = rw (c.from_residual-in_err-sum.ensures, ← c.self.view_i
 
 pub reduced_by_shared-num-requires-clause-some : goal.reduced_by_shared-num-requires-clause-some
 reduced_by_shared-num-requires-clause-some c =
-    rw c.in_ok-common.ensures.1 (mul-pos c.self.inside.lowest.positive (quotient-some _ _ _ c.other.inside.lowest.positive c.gcd-shared.ensures))
+    rw (c.in_ok-common.ensures.1, c.quotient-left_by.ensures) (mul-pos c.self.inside.lowest.positive (quotient-some _ _ _ c.other.inside.lowest.positive c.gcd-shared.ensures))
 
 pub reduced_by_shared-num-requires-clause-same : goal.reduced_by_shared-num-requires-clause-same
 reduced_by_shared-num-requires-clause-same c =
@@ -61,9 +61,9 @@ reduced_by_shared-num-requires-clause-same c =
     let fs : FitsSigned w128 c.in_ok-sum.sum = search rules in
     let tl = cast_quotient c.other.inside.den c.gcd-shared.result c.other.invariant.den_fits in
     let tr = cast_quotient c.self.inside.den c.gcd-shared.result c.self.invariant.den_fits in
-    let kc = c.in_ok-common.ensures in
-    let kl = rw tl at (simp to_z-of_z at c.in_ok-left.ensures) in
-    let kr = rw tr at (simp to_z-of_z at c.in_ok-right.ensures) in
+    let kc = rw c.quotient-left_by.ensures at c.in_ok-common.ensures in
+    let kl = rw (c.quotient-left_by.ensures, tl) at (simp to_z-of_z at c.in_ok-left.ensures) in
+    let kr = rw (c.quotient-right_by.ensures, tr) at (simp to_z-of_z at c.in_ok-right.ensures) in
     let ks = simp to_z-of_z at c.in_ok-sum.ensures in
     let a = made c.self.inside.num c.self.inside.den c.self.inside.lowest in
     let b = made c.other.inside.num c.other.inside.den c.other.inside.lowest in
@@ -81,9 +81,9 @@ returns c =
     let fn : FitsSigned w128 c.reduced_by_shared-num.result.0 = search rules in
     let tl = cast_quotient c.other.inside.den c.gcd-shared.result c.other.invariant.den_fits in
     let tr = cast_quotient c.self.inside.den c.gcd-shared.result c.self.invariant.den_fits in
-    let kc = c.in_ok-common.ensures in
-    let kl = rw tl at (simp to_z-of_z at c.in_ok-left.ensures) in
-    let kr = rw tr at (simp to_z-of_z at c.in_ok-right.ensures) in
+    let kc = rw c.quotient-left_by.ensures at c.in_ok-common.ensures in
+    let kl = rw (c.quotient-left_by.ensures, tl) at (simp to_z-of_z at c.in_ok-left.ensures) in
+    let kr = rw (c.quotient-right_by.ensures, tr) at (simp to_z-of_z at c.in_ok-right.ensures) in
     let ks = simp to_z-of_z at c.in_ok-sum.ensures in
     let r = rw ks.1 at (simp to_z-of_z at c.reduced_by_shared-num.ensures.parts) in
     let a = made c.self.inside.num c.self.inside.den c.self.inside.lowest in
@@ -105,9 +105,9 @@ invariant_of-result c =
     let fs : FitsSigned w128 c.in_ok-sum.sum = search rules in
     let tl = cast_quotient c.other.inside.den c.gcd-shared.result c.other.invariant.den_fits in
     let tr = cast_quotient c.self.inside.den c.gcd-shared.result c.self.invariant.den_fits in
-    let kc = c.in_ok-common.ensures in
-    let kl = rw tl at (simp to_z-of_z at c.in_ok-left.ensures) in
-    let kr = rw tr at (simp to_z-of_z at c.in_ok-right.ensures) in
+    let kc = rw c.quotient-left_by.ensures at c.in_ok-common.ensures in
+    let kl = rw (c.quotient-left_by.ensures, tl) at (simp to_z-of_z at c.in_ok-left.ensures) in
+    let kr = rw (c.quotient-right_by.ensures, tr) at (simp to_z-of_z at c.in_ok-right.ensures) in
     let ks = simp to_z-of_z at c.in_ok-sum.ensures in
     let a = made c.self.inside.num c.self.inside.den c.self.inside.lowest in
     let b = made c.other.inside.num c.other.inside.den c.other.inside.lowest in
@@ -124,9 +124,9 @@ returns-then-shared-eq1 c =
     let fs : FitsSigned w128 c.in_ok-sum.sum = search rules in
     let tl = cast_quotient c.other.inside.den c.gcd-shared.result c.other.invariant.den_fits in
     let tr = cast_quotient c.self.inside.den c.gcd-shared.result c.self.invariant.den_fits in
-    let kc = c.in_ok-common.ensures in
-    let kl = rw tl at (simp to_z-of_z at c.in_ok-left.ensures) in
-    let kr = rw tr at (simp to_z-of_z at c.in_ok-right.ensures) in
+    let kc = rw c.quotient-left_by.ensures at c.in_ok-common.ensures in
+    let kl = rw (c.quotient-left_by.ensures, tl) at (simp to_z-of_z at c.in_ok-left.ensures) in
+    let kr = rw (c.quotient-right_by.ensures, tr) at (simp to_z-of_z at c.in_ok-right.ensures) in
     let ks = simp to_z-of_z at c.in_ok-sum.ensures in
     let a = made c.self.inside.num c.self.inside.den c.self.inside.lowest in
     let b = made c.other.inside.num c.other.inside.den c.other.inside.lowest in
@@ -137,11 +137,11 @@ returns-then-shared-eq1 c =
       sum_is a b _ (simp to_z-of_z (rw ks.1 (sum-parts-same a b _ _ _ _ s))),
     )
 
-pub nonzero_div-left_by : goal.nonzero_div-left_by
-nonzero_div-left_by c = gcd-some _ _ _ c.other.inside.lowest.positive c.gcd-shared.ensures
+pub quotient-left_by-requires : goal.quotient-left_by-requires
+quotient-left_by-requires c = gcd-some _ _ _ c.other.inside.lowest.positive c.gcd-shared.ensures
 
-pub nonzero_div-right_by : goal.nonzero_div-right_by
-nonzero_div-right_by c = gcd-some _ _ _ c.other.inside.lowest.positive c.gcd-shared.ensures
+pub quotient-right_by-requires : goal.quotient-right_by-requires
+quotient-right_by-requires c = gcd-some _ _ _ c.other.inside.lowest.positive c.gcd-shared.ensures
 
 pub returns-then-other-eq1 : goal.returns-then-other-eq1
 returns-then-other-eq1 c =
