@@ -7,7 +7,9 @@ ghost use Rattle.np_frac.specs.Steps.Found.{IsFound, IsSumFound};
 ghost use Rattle.np_frac.specs.Order.{ratio_cmp, ratio_eq};
 
 use crate::divisor::{gcd, quotient, reduced, reduced_by_shared};
-use crate::wide::{compare_products, lower_within, product_within, sum_within};
+use crate::wide::{
+    compare_products, compare_short_products, lower_within, product_within, sum_within,
+};
 use std::cmp::Ordering;
 use std::marker::Model;
 
@@ -276,8 +278,19 @@ impl Frac {
         self == other
     }
 
-    /// The exact order of any two fractions, though their cross products need 254 bits.
-    pub fn compare(self, other: Frac) -> Ordering
+    /// The parts, where each has 64 bits.
+    fn short_parts(self) -> Option<(i64, i64)>
+        ensures num { IfSome result (λ parts. parts.0 ≡ self.num) }
+        ensures den { IfSome result (λ parts. parts.1 ≡ pos self.den) }
+    {
+        match (i64::try_from(self.num), i64::try_from(self.den)) {
+            (Ok(num), Ok(den)) => Some((num, den)),
+            _ => None,
+        }
+    }
+
+    /// The exact order of any two fractions, by the sizes of their cross products.
+    fn compare_long(self, other: Frac) -> Ordering
         ensures { result ≡ ratio_cmp self other }
     {
         let (left, right) = (self.num.unsigned_abs(), other.num.unsigned_abs());
@@ -286,6 +299,18 @@ impl Frac {
             (false, true) => Ordering::Greater,
             (true, false) => Ordering::Less,
             (true, true) => compare_products(right, self.den, left, other.den),
+        }
+    }
+
+    /// The exact order of any two fractions, though their cross products need 254 bits.
+    pub fn compare(self, other: Frac) -> Ordering
+        ensures { result ≡ ratio_cmp self other }
+    {
+        match (self.short_parts(), other.short_parts()) {
+            (Some(left), Some(right)) => {
+                compare_short_products(left.0, right.1, right.0, left.1)
+            }
+            _ => self.compare_long(other),
         }
     }
 }
