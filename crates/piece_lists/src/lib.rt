@@ -9,5 +9,5 @@ mod pieces;
 
 pub use flowing::{FlowRefusal, flows_after};
 pub use joining::{both, marks_after};
-pub use numbered::{Numbered, merged, without};
+pub use numbered::{Numbered, merged, picked, without};
 pub use pieces::pieces_over;

@@ -1,10 +1,10 @@
 //! Ascending lists of what has a number: nodes, basic arcs and marks.
 
-ghost use Rattle.std.specs.Prelude.{◌≡◌, ◌==◌, ℕ, map, not, IfOk};
+ghost use Rattle.std.specs.Prelude.{◌≡◌, ◌==◌, ◌↔◌, ℕ, map, not, IsTrue, IfOk};
 ghost use Rattle.std.specs.List.{filter};
 ghost use Rattle.std.specs.List.Sorted.{IsStrictlyIncreasing};
 ghost use Rattle.gain_graphs.specs.Arcs.{IsIn};
-ghost use Rattle.piece_lists.specs.Merged.{IsMerged};
+ghost use Rattle.piece_lists.specs.Merged.{IsMerged, ArePicked, StandsAtPlace};
 
 use np_frac::{Frac, Memory};
 use np_model::{Ends, Mark};
@@ -88,4 +88,30 @@ pub fn without<T: Numbered>(alloc: Global, xs: &[T], number: u32) -> Result<Vec<
         }
     }
     Ok(rest)
+}
+
+// Whether there is an entry at this place, and has this number.
+fn stands_at<T: Numbered>(xs: &[T], place: usize, number: u32) -> bool
+    ensures { IsTrue result ↔ StandsAtPlace T.number_of xs.now place number }
+{
+    if place >= xs.len() {
+        return false;
+    }
+    xs[place].number() == number
+}
+
+/// The entries of an ascending list that have the numbers of another one, which are all in it. In one pass over both.
+pub fn picked<T: Numbered>(alloc: Global, xs: &[T], like: &[T]) -> Result<Vec<T>, Memory>
+    requires ascends { IsStrictlyIncreasing (map T.number_of xs.now) }
+    requires like_ascends { IsStrictlyIncreasing (map T.number_of like.now) }
+    requires has { (n : ℕ) → IsIn n (map T.number_of like.now) → IsIn n (map T.number_of xs.now) }
+    ensures { IfOk result (λ picked. ArePicked T.number_of xs.now like.now picked.items) }
+{
+    let mut picked = Vec::with_capacity(alloc, like.len())?;
+    for x in xs {
+        if stands_at(like, picked.len(), x.number()) {
+            picked.push(*x)?;
+        }
+    }
+    Ok(picked)
 }

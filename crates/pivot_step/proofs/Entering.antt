@@ -80,7 +80,7 @@ touches_first first (Some other) (Link i j g) h = elim h [ inl k ↦ inl k.0 | i
 touches_first first (Some other) (Drain v) h = absurd h
 touches_first first (Some other) (Feed v) h = absurd h
 
-is_first : (first : PieceLists) (second : Option Store) → IsIn first (lists_of (λ (s : Store). s.lists) first second)
+pub is_first : (first : PieceLists) (second : Option Store) → IsIn first (lists_of (λ (s : Store). s.lists) first second)
 is_first first None = inl refl
 is_first first (Some other) = inl refl
 

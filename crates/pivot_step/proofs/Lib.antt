@@ -3,6 +3,7 @@ mod Finding
 mod Assembled
 mod Entries
 mod Flipping
+mod Kept
 mod Ready
 mod Entering
 mod Answering

@@ -1,5 +1,6 @@
 -- Steps of the code: the lists of all pieces in one, changed, and the potentials of the new pieces.
-use Rattle.std.specs.Prelude.{◌≡◌, ℕ, List, [], ◌∷◌, ⊤}
+use Rattle.std.specs.Prelude.{◌≡◌, ◌<◌, ℕ, List, [], ◌∷◌, length, ⊤}
+use Rattle.std.specs.List.Sorted.{IsStrictlyIncreasing}
 use Rattle.gain_graphs.specs.Arcs.{IsIn}
 use Rattle.np_frac.specs.Ratio.{Ratio, zero_ratio}
 use Rattle.np_model.specs.declared.arc.Ends.{Ends}
@@ -9,7 +10,8 @@ use Rattle.np_model.specs.declared.rows.Overflow.{Overflow}
 use Rattle.np_model.specs.declared.rows.Place.TheVariants.{Arc}
 use Rattle.np_model.specs.declared.rows.Row.TheVariants.{A6}
 use Rattle.np_model.specs.Network.Flows.{Network}
-use Rattle.np_model.specs.Basis.Pieces.{PieceLists, nodes_in, beside}
+use Rattle.np_model.specs.Basis.Pieces.{PieceLists, nodes_in, basics_in, marked_in, beside}
+use Rattle.np_model.specs.Basis.Sound.{AreInOrder}
 use Rattle.piece_lists.specs.Flowing.{AreFlowsAfter}
 use Rattle.piece_lists.specs.Joining.{all_nodes, AreMarksAfter}
 use Rattle.piece_lists.specs.declared.flowing.FlowRefusal.{FlowRefusal}
@@ -43,6 +45,30 @@ pub record AreChanged (one : PieceLists) (entering : ℕ × Ends × Ratio) (entr
   pub nodes : lists.nodes ≡ one.nodes
   pub flows : AreFlowsAfter one.basics entering entry.leave steps t lists.basics
   pub marks : AreMarksAfter one.marks entry.enter entry.leave entry.leave_at lists.marks
+
+-- lists in ascending order with all basic arcs and all marks of this piece
+pub record HasAllOf (lists piece : PieceLists) : Type 0 where
+  pub basics_ascend : IsStrictlyIncreasing (basics_in lists)
+  pub marks_ascend : IsStrictlyIncreasing (marked_in lists)
+  pub own_basics_ascend : IsStrictlyIncreasing (basics_in piece)
+  pub own_marks_ascend : IsStrictlyIncreasing (marked_in piece)
+  pub basics : (a : ℕ) → IsIn a (basics_in piece) → IsIn a (basics_in lists)
+  pub marked : (a : ℕ) → IsIn a (marked_in piece) → IsIn a (marked_in lists)
+  pub some : 0 < length piece.nodes
+
+-- the piece with its nodes as they were, and with its own basic arcs and marks as they stand in the lists
+pub record IsKept (lists old new : PieceLists) : Type 0 where
+  pub nodes : new.nodes ≡ old.nodes
+  pub basics : basics_in new ≡ basics_in old
+  pub marked : marked_in new ≡ marked_in old
+  pub basics_from : (b : ℕ × Ends × Ratio) → IsIn b new.basics → IsIn b lists.basics
+  pub marks_from : (m : ℕ × Mark) → IsIn m new.marks → IsIn m lists.marks
+
+-- each of these pieces, in order
+pub record AreKept (lists : PieceLists) (olds news : List PieceLists) : Type 0 where
+  pub in_order : AreInOrder news
+  pub each : (q : PieceLists) → IsIn q news → (p : PieceLists) × IsIn p olds × IsKept lists p q
+  pub every : (p : PieceLists) → IsIn p olds → (q : PieceLists) × IsIn q news × IsKept lists p q
 
 -- the piece with its right potentials
 pub record IsSettled (net : Network) (old new : PieceLists) : Type 0 where
