@@ -20,9 +20,10 @@ use Rattle.np_model.specs.Basis.Graphs.{no_arc, ends_at, ratios, graph_ends}
 use Rattle.np_model.specs.Basis.Phases.{network_of}
 use Rattle.np_model.specs.Basis.Pieces.{PieceLists, HasShape}
 use Rattle.np_model.specs.Basis.Starts.{residual, artificial_end, artificial_flow, artificial_ends, start_potential, nodes_from_0, start_piece, touches}
+use Rattle.np_basis.proofs.Reading.{map_map}
 use Rattle.np_basis.proofs.StartPieces.{start_piece_has_shape}
 use Rattle.quasi_tree.specs.Start.{artificial_at, end_potential, end_flow, artificial_flow_at, flows_at_start, piece_at_start}
-use Rattle.quasi_tree.specs.Laws.{FlowsByResiduals, PiecesByResiduals}
+use Rattle.quasi_tree.specs.Laws.{FlowsByResiduals, PotentialsByResiduals, PiecesByResiduals}
 use Rattle.quasi_tree.specs.Store.{IsHeld}
 
 -- the marks of the arcs so far, and that of the next one
@@ -150,6 +151,15 @@ module _ (full : FullNet) (by_residuals : full.artificial ≡ artificial_ends (n
 pub flows_by_residuals : FlowsByResiduals
 flows_by_residuals full by_residuals =
     ap (λ (t : List Ratio). map (λ (a : NetArc). a.lower) full.net.arcs ++ t) (flows_are full by_residuals)
+
+potentials_at : (n : Network) (xs : List ℕ) → map (λ v. end_potential (artificial_end n v)) xs ≡ map (start_potential n) xs
+potentials_at n [] = refl
+potentials_at n (x ∷ xs) = ap (λ t. end_potential (artificial_end n x) ∷ t) (potentials_at n xs) ∙ ap (λ p. p ∷ map (start_potential n) xs) (potential_by_end n x)
+
+pub potentials_by_residuals : PotentialsByResiduals
+potentials_by_residuals full by_residuals =
+    let net : Network = network_of full.net in
+    ap (λ (t : List Ends). map end_potential t) by_residuals ∙ map_map (artificial_end net) end_potential (nodes_from_0 net) ∙ potentials_at net (nodes_from_0 net)
 
 pub pieces_by_residuals : PiecesByResiduals
 pieces_by_residuals full v by_residuals below =

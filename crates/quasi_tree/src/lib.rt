@@ -10,3 +10,4 @@ mod start;
 
 pub use lists::{FlowList, Lists, MarkList, NodeList};
 pub use quasi::Quasi;
+pub use start::start_potential;

@@ -136,18 +136,33 @@ impl Quasi {
         requires flows { start.now.flows ≡ flows_at_start start.now.full }
         ensures { IfOk result (λ piece. piece.lists ≡ piece_at_start start.now.full node) }
     {
+        let marks = marks_at(alloc, start.full.net.arcs.as_slice(), node)?;
+        Quasi::single_with_marks(alloc, start, node, MarkList { items: marks })
+    }
+
+    /// The piece of a node at the start, as [`Quasi::single`] makes it, from its marks, which are taken as they are. Takes time that does not
+    /// grow with the network.
+    pub fn single_with_marks(
+        alloc: Global,
+        start: &StartBasis,
+        node: u32,
+        marks: MarkList,
+    ) -> Result<Quasi, Memory>
+        requires is_node { node < length start.now.full.net.supply }
+        requires flows { start.now.flows ≡ flows_at_start start.now.full }
+        requires marks { marks.items.items ≡ (piece_at_start start.now.full node).marks }
+        ensures { IfOk result (λ piece. piece.lists ≡ piece_at_start start.now.full node) }
+    {
         let real = start.full.net.arcs.items.len();
-        let potential = start_potential(&start.full.artificial.items[node as usize]);
-        let nodes = node_alone(alloc, node, potential)?;
         let ends = start.full.artificial.items[node as usize];
         let flow = start.flows.items[real + node as usize];
+        let nodes = node_alone(alloc, node, start_potential(&ends))?;
         let basics = basic_alone(alloc, real as u32 + node, ends, flow)?;
-        let marks = marks_at(alloc, start.full.net.arcs.as_slice(), node)?;
         Ok(Quasi {
             lists: Lists {
                 nodes,
                 basics,
-                marks: MarkList { items: marks },
+                marks,
             },
         })
     }

@@ -13,8 +13,8 @@ use np_frac::{Frac, Memory};
 use np_model::{Ends, Mark, NetArc};
 use std::alloc::Global;
 
-/// The potential of a node whose only basic arc is this artificial one.
-pub(crate) fn start_potential(ends: &Ends) -> Frac
+/// The potential of a node whose only basic arc is this artificial one, in stage one: -1 at a feed, and else 1.
+pub fn start_potential(ends: &Ends) -> Frac
     ensures { result ≡ end_potential ends.now }
 {
     match ends {

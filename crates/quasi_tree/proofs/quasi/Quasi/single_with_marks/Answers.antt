@@ -3,16 +3,16 @@ use Rattle.np_model.specs.Basis.Pieces.{PieceLists}
 use Rattle.quasi_tree.specs.Start.{piece_at_start}
 use Rattle.quasi_tree.specs.Store.{IsHeld}
 use Rattle.quasi_tree.proofs.Starts.{held_start, flows_long, single_is}
-use Rattle.quasi_tree.proofs.quasi.Quasi.single.Goals as goal
+use Rattle.quasi_tree.proofs.quasi.Quasi.single_with_marks.Goals as goal
 
-piece_is : (c : goal.In_ok-marks)
-    → record { nodes = c.in_ok-nodes.nodes.items.items; basics = c.in_ok-basics.basics.items.items; marks = c.in_ok-marks.marks.items }
+piece_is : (c : goal.In_ok-basics)
+    → record { nodes = c.in_ok-nodes.nodes.items.items; basics = c.in_ok-basics.basics.items.items; marks = c.args.marks.items.items }
     ≡ piece_at_start c.args.start.now.full c.args.node
 piece_is c =
-    single_is c.args.start.now.full c.args.node c.args.start.now.flows c.start_potential-potential.result
-    c.index.result.now c.index-ends.result.now c.index-flow.result.now
-    (record { nodes = c.in_ok-nodes.nodes.items.items; basics = c.in_ok-basics.basics.items.items; marks = c.in_ok-marks.marks.items })
-    c.requires.is_node c.requires.flows (search rules) (search rules) (search rules) (search rules)
+    single_is c.args.start.now.full c.args.node c.args.start.now.flows c.start_potential.result
+    c.index.result.now c.index.result.now c.index-flow.result.now
+    (record { nodes = c.in_ok-nodes.nodes.items.items; basics = c.in_ok-basics.basics.items.items; marks = c.args.marks.items.items })
+    c.requires.is_node c.requires.flows (search rules) (search rules) (search rules) c.requires.marks
 
 pub invariant_of-result : goal.invariant_of-result
 invariant_of-result c =
