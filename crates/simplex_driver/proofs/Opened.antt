@@ -14,13 +14,12 @@ use Rattle.np_model.specs.declared.phase.Phase.TheVariants.{One}
 use Rattle.np_model.specs.Network.Flows.{Network}
 use Rattle.np_model.specs.Basis.Pieces.{nodes_in, least_node}
 use Rattle.np_model.specs.Basis.States.{State, values_of, IsPieceOf}
-use Rattle.np_model.specs.Basis.Starts.{touches, artificial_end, artificial_ends, start_potential, nodes_from_0, start_flows, start_state, start_net, start_piece}
-use Rattle.np_basis.proofs.Reading.{map_map}
+use Rattle.np_model.specs.Basis.Starts.{touches, start_potential, nodes_from_0, start_flows, start_state, start_net, start_piece}
 use Rattle.np_basis.proofs.StartPieces.{start_piece_is_piece}
 use Rattle.quasi_tree.specs.Start.{end_potential}
 use Rattle.quasi_tree.specs.Store.{Store}
 use Rattle.quasi_tree.specs.declared.lists.MarkList.{MarkList}
-use Rattle.quasi_tree.proofs.Starts.{one_more_mark, potential_by_end}
+use Rattle.quasi_tree.proofs.Starts.{one_more_mark}
 use Rattle.simplex_driver.specs.declared.forest.Forest.{Forest}
 use Rattle.simplex_driver.specs.Store.{state_of, slot_at, home_at, IsKept}
 use Rattle.simplex_driver.specs.Opening.{HaveMarks, AreSingles}
@@ -77,18 +76,14 @@ for_each : {A : Type 0} (mark : Mark) (a : ℕ) (xs : List A) → map (λ (v : �
 for_each mark a [] = refl
 for_each mark a (x ∷ xs) = ap (λ t. mark ∷ t) (for_each mark (a + 1) xs)
 
-potentials_start : (net : Network) (xs : List ℕ) → map (λ v. end_potential (artificial_end net v)) xs ≡ map (start_potential net) xs
-potentials_start net [] = refl
-potentials_start net (x ∷ xs) = ap (λ t. end_potential (artificial_end net x) ∷ t) (potentials_start net xs) ∙ ap (λ p. p ∷ map (start_potential net) xs) (potential_by_end net x)
-
-pub is_start_state : (net : Network) (artificial : List Ends) (s : State) → artificial ≡ artificial_ends net
+pub is_start_state : (net : Network) (artificial : List Ends) (s : State) → map end_potential artificial ≡ map (start_potential net) (nodes_from_0 net)
     → s.marks ≡ map (λ (v : ℕ). marked.Lower) (range_with_len 0 (length net.arcs)) ++ map (λ (v : ℕ). marked.Basic) (range_with_len 0 (length net.supply))
     → s.flows ≡ start_flows net → s.potentials ≡ map end_potential artificial → s ≡ start_state net
-is_start_state net artificial s ends marks flows potentials =
+is_start_state net artificial s at_start marks flows potentials =
     same_state s (start_state net)
     (marks ∙ ap (λ t. t ++ map (λ (v : ℕ). marked.Basic) (range_with_len 0 (length net.supply))) (for_each marked.Lower 0 net.arcs))
     flows
-    (potentials ∙ ap (λ t. map end_potential t) ends ∙ map_map (artificial_end net) end_potential (nodes_from_0 net) ∙ potentials_start net (nodes_from_0 net))
+    (potentials ∙ at_start)
 
 -- ---- its pieces
 

@@ -15,7 +15,8 @@ ghost use Rattle.simplex_driver.specs.Store.{IsKept, state_of};
 use crate::forest::Forest;
 use np_frac::{Frac, Memory};
 use np_model::{Ends, Mark, Net, StartBasis};
-use quasi_tree::{FlowList, Lists, MarkList, NodeList, Quasi};
+use quasi_tree::laws::starts;
+use quasi_tree::{MarkList, Quasi, start_potential};
 use std::alloc::Global;
 
 // An empty list for each node.
@@ -72,16 +73,6 @@ fn marks_by_node(alloc: Global, net: &Net) -> Result<Vec<MarkList>, Memory>
     Ok(lists)
 }
 
-// The potential of a node whose only basic arc is this artificial one.
-fn potential_by(ends: &Ends) -> Frac
-    ensures { result ≡ end_potential ends.now }
-{
-    match ends {
-        Ends::Feed(_) => Frac::whole(1).negated(),
-        _ => Frac::whole(1),
-    }
-}
-
 // The piece of a node at the start, from the marks of the arcs that touch it.
 fn single(alloc: Global, start: &StartBasis, node: u32, marks: MarkList) -> Result<Quasi, Memory>
     requires is_node { node < length start.now.full.net.supply }
@@ -90,20 +81,8 @@ fn single(alloc: Global, start: &StartBasis, node: u32, marks: MarkList) -> Resu
     requires marks { marks.items.items ≡ lower_marks start.now.full.net.arcs (length start.now.full.net.arcs) node }
     ensures { IfOk result (λ piece. piece.lists ≡ start_piece (network_of start.now.full.net) node) }
 {
-    let real = start.full.net.arcs.items.len();
-    let ends = start.full.artificial.items[node as usize];
-    let nodes = [(node, potential_by(&ends))];
-    let flow = start.flows.items[real + node as usize];
-    let basics = [(real as u32 + node, ends, flow)];
-    Ok(Quasi::of_lists(Lists {
-        nodes: NodeList {
-            items: Vec::from_slice(alloc, &nodes)?,
-        },
-        basics: FlowList {
-            items: Vec::from_slice(alloc, &basics)?,
-        },
-        marks,
-    }))
+    starts();
+    Quasi::single_with_marks(alloc, start, node, marks)
 }
 
 // The pieces of the start, each in the slot of its node.
@@ -142,7 +121,7 @@ fn potentials_by(alloc: Global, artificial: &[Ends]) -> Result<Vec<Frac>, Memory
 {
     let mut potentials = Vec::with_capacity(alloc, artificial.len())?;
     for ends in artificial {
-        potentials.push(potential_by(ends))?;
+        potentials.push(start_potential(ends))?;
     }
     Ok(potentials)
 }
@@ -175,6 +154,7 @@ impl Forest {
         ensures state { IfOk result (λ f. state_of f ≡ start_state (network_of start.now.full.net)) }
         ensures kept { IfOk result (λ f. IsKept (start_net One (network_of start.now.full.net)) f) }
     {
+        starts();
         let nodes = start.full.net.supply.items.len();
         let real = start.full.net.arcs.items.len();
         let lists = marks_by_node(alloc, &start.full.net)?;

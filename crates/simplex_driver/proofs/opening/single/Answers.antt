@@ -1,23 +1,12 @@
-use Rattle.std.proofs.Common.{rules, ap, ◌∙◌, subst, sym, arith}
-use Rattle.np_model.specs.Basis.Phases.{network_of}
-use Rattle.np_model.specs.Basis.Pieces.{PieceLists}
-use Rattle.quasi_tree.specs.Store.{Store, IsHeld}
-use Rattle.quasi_tree.proofs.Starts.{held_start, single_is}
+use Rattle.std.proofs.Common.{sym, ◌∙◌}
+use Rattle.std.proofs.lemmas.Result.{IfOk-weaker}
 use Rattle.simplex_driver.proofs.opening.single.Goals as goal
 
-pub of_lists-requires : goal.of_lists-requires
-of_lists-requires c =
-    subst (λ (p : PieceLists). IsHeld p) (sym
-    (single_is (network_of c.args.start.now.full.net) c.args.node c.args.start.now.full.artificial c.args.start.now.flows c.potential_by.result
-    c.index.result.now c.index.result.now c.index-flow.result.now
-    (record { nodes = c.in_ok-from_slice.field-0.items; basics = c.in_ok-from_slice-2.field-0.items; marks = c.args.marks.items.items })
-    c.requires.is_node c.requires.artificial c.requires.flows (search rules) (search rules) (search rules) c.requires.marks))
-    (held_start (network_of c.args.start.now.full.net) c.args.node (omega (arith, c.args.start.now.full.net.valid.few_arcs)))
+pub single_with_marks-requires-clause-flows : goal.single_with_marks-requires-clause-flows
+single_with_marks-requires-clause-flows c = c.requires.flows ∙ sym (c.starts.ensures.flows c.args.start.now.full c.requires.artificial)
 
 pub returns : goal.returns
 returns c =
-    ap (λ (s : Store). s.lists) c.of_lists.ensures
-    ∙ single_is (network_of c.args.start.now.full.net) c.args.node c.args.start.now.full.artificial c.args.start.now.flows c.potential_by.result
-    c.index.result.now c.index.result.now c.index-flow.result.now
-    (record { nodes = c.in_ok-from_slice.field-0.items; basics = c.in_ok-from_slice-2.field-0.items; marks = c.args.marks.items.items })
-    c.requires.is_node c.requires.artificial c.requires.flows (search rules) (search rules) (search rules) c.requires.marks
+    IfOk-weaker c.single_with_marks.result _ _
+    (λ piece is. is ∙ c.starts.ensures.pieces c.args.start.now.full c.args.node c.requires.artificial c.requires.is_node)
+    c.single_with_marks.ensures
