@@ -1,6 +1,6 @@
 //! Several workers, each in a thread of its own where one can be made.
 
-ghost use Rattle.std.specs.Prelude.{◌≡◌, ◌<◌, ◌≤◌, ◌+◌, ◌-◌, ◌^◌, length};
+ghost use Rattle.std.specs.Prelude.{◌≡◌, ◌<◌, ◌≤◌, ◌+◌, ◌-◌, length};
 ghost use Rattle.std.specs.List.{All};
 ghost use Rattle.std.specs.Thread.{IsSync};
 ghost use Rattle.np_model.specs.Basis.Phases.{real_arcs};
@@ -42,7 +42,6 @@ pub(crate) fn crew<T: Piece, P: Pivoter<T>, G: Gate, R: Threads + Sync>(
     requires arcs { All (λ a. a < real_arcs full.now) list.now }
     requires slots { NameSlots (length full.now.net.supply) openings.now }
     requires workers { (1 ≤ first) × (first + count ≤ workers + 1) × (workers ≤ 16) }
-    requires short { length list.now < 2 ^ 32 }
     ensures crew { HaveWorked pass result.0 (dealt_to (workers - 1) (first - 1) count list.now) count quota result.1 }
     ensures one { count ≡ 1 → HasWorked openings.now pass result.0 (dealt (workers - 1) (first - 1) list.now) quota result.1 }
 {
@@ -72,7 +71,7 @@ pub(crate) fn crew<T: Piece, P: Pivoter<T>, G: Gate, R: Threads + Sync>(
             let ((mut pass, mine), (other, theirs)) = join(
                 rt,
                 || -> (Pass<T>, Report)
-                    requires { IsSync R.row × IsOf table.now pass × IsReady full.now phase pass × CanCrew pass half quota × All (λ a. a < real_arcs full.now) list.now × NameSlots (length full.now.net.supply) openings.now × (1 ≤ first) × (first + half ≤ workers + 1) × (workers ≤ 16) × (length list.now < 2 ^ 32) }
+                    requires { IsSync R.row × IsOf table.now pass × IsReady full.now phase pass × CanCrew pass half quota × All (λ a. a < real_arcs full.now) list.now × NameSlots (length full.now.net.supply) openings.now × (1 ≤ first) × (first + half ≤ workers + 1) × (workers ≤ 16) }
                     ensures { HaveWorked pass result.0 (dealt_to (workers - 1) (first - 1) half list.entry.now) half quota result.1 }
                 {
                     crew(
@@ -81,7 +80,7 @@ pub(crate) fn crew<T: Piece, P: Pivoter<T>, G: Gate, R: Threads + Sync>(
                     )
                 },
                 || -> (Pass<T>, Report)
-                    requires { IsSync R.row × IsOf table.now other × IsReady full.now phase other × CanCrew other other_half quota × All (λ a. a < real_arcs full.now) list.now × NameSlots (length full.now.net.supply) openings.now × (1 ≤ first) × (first + half + other_half ≤ workers + 1) × (workers ≤ 16) × (length list.now < 2 ^ 32) }
+                    requires { IsSync R.row × IsOf table.now other × IsReady full.now phase other × CanCrew other other_half quota × All (λ a. a < real_arcs full.now) list.now × NameSlots (length full.now.net.supply) openings.now × (1 ≤ first) × (first + half + other_half ≤ workers + 1) × (workers ≤ 16) }
                     ensures { HaveWorked other result.0 (dealt_to (workers - 1) (first + half - 1) other_half list.entry.now) other_half quota result.1 }
                 {
                     crew(

@@ -1,6 +1,6 @@
 //! A round: a table is set up, the workers work at it, and it is closed.
 
-ghost use Rattle.std.specs.Prelude.{◌≡◌, ◌<◌, ◌^◌, map, length, IfOk, IfErr};
+ghost use Rattle.std.specs.Prelude.{◌≡◌, ◌<◌, map, length, IfOk, IfErr};
 ghost use Rattle.std.specs.List.{All};
 ghost use Rattle.np_model.specs.Basis.Phases.{phase_net, real_arcs};
 ghost use Rattle.tree_table.specs.Passes.{opening_of};
@@ -40,7 +40,6 @@ pub fn run_round<T: Piece, P: Pivoter<T>, G: Gate>(
 ) -> Result<Round<T>, SetupRefusal<T>>
     requires forest { AreForest (phase_net phase full.now) (map T.lists pieces.items) }
     requires arcs { All (λ a. a < real_arcs full.now) list.now }
-    requires short { length list.now < 2 ^ 32 }
     requires work { CanWork workers quota }
     ensures round { IfOk result (λ r. IsRound (opening_of full.now phase (map T.lists pieces.items)) list.now workers quota (map T.lists r.pieces.items) r.entries r.report) }
     ensures memory { IfErr result (λ r. r.pieces.items ≡ pieces.items) }

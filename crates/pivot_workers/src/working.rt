@@ -1,6 +1,6 @@
 //! What one worker does.
 
-ghost use Rattle.std.specs.Prelude.{◌-◌, ◌^◌, ◌<◌, ◌≤◌, length};
+ghost use Rattle.std.specs.Prelude.{◌-◌, ◌<◌, ◌≤◌, length};
 ghost use Rattle.std.specs.List.{All};
 ghost use Rattle.np_model.specs.Basis.Phases.{real_arcs};
 ghost use Rattle.tree_table.specs.Calls.{IsOf};
@@ -78,7 +78,6 @@ pub fn work<T: Piece, P: Pivoter<T>, G: Gate>(
     requires table { IsOf table.now pass.old }
     requires ready { IsReady full.now phase pass.old }
     requires arcs { All (λ a. a < real_arcs full.now) list.now }
-    requires short { length list.now < 2 ^ 32 }
     requires slots { NameSlots (length full.now.net.supply) openings.now }
     requires worker { (1 ≤ worker) × (worker ≤ workers) × (workers ≤ 16) }
     requires room { quota ≤ pass.old.spare }
