@@ -1,22 +1,78 @@
-"""What tools/picture and tools/table share: a network and its plan from standard input, short decimals, and the words of a verdict.
+"""What the tools share: network texts and plan texts, read and written, short decimals, and the words of a verdict.
 
-The grammar of the texts is that of tests/texts.py. Whether the plan is right is not looked at: `netplan check` tells that.
+The grammar of the texts is that of tests/texts.py. Whether a plan is right is not looked at: `netplan check` tells that.
 """
+import csv
 import os
 import sys
 from fractions import Fraction
 
 sys.dont_write_bytecode = True
 sys.path.insert(0, os.path.join(os.path.dirname(os.path.dirname(os.path.abspath(__file__))), "tests"))
-from texts import LONGEST_INPUT, Network, Plan, network_fault, plan_fault, records_of
+from texts import LARGEST, LONGEST_INPUT, Network, Plan, network_fault, plan_fault, records_of
+
+# Newer versions of Python read and write no whole numbers of more than 4,300 digits without this.
+if hasattr(sys, "set_int_max_str_digits"):
+    sys.set_int_max_str_digits(0)
+
+REFUSED = 5  # the status of a text with a fault, as of the program
+UNREADABLE = 66  # and of a file that cannot be read, as of the launcher
 
 
-def read_plan():
-    """The network and the plan on standard input. A fault is told on standard error by its record and word, with the status 5."""
-    data = sys.stdin.buffer.read(LONGEST_INPUT + 1)
-    if len(data) > LONGEST_INPUT:
-        refuse(0, "TooLong")
-    records = records_of(data)
+# ---- reading
+
+
+def say(text):
+    print(f"{os.path.basename(sys.argv[0])}: {text}", file=sys.stderr)
+
+
+def stop(status, text):
+    say(text)
+    sys.exit(status)
+
+
+def refuse(place, word):
+    stop(REFUSED, f"fault in record {place}: {word}")
+
+
+def bytes_of(path):
+    """The bytes of a file, or of standard input for '-'."""
+    if path == "-":
+        return sys.stdin.buffer.read(LONGEST_INPUT + 1)
+    try:
+        with open(path, "rb") as file:
+            return file.read(LONGEST_INPUT + 1)
+    except OSError as told:
+        stop(UNREADABLE, f"{path}: {told.strerror}")
+
+
+def joined(texts):
+    """Texts one behind the other, as `./netplan` puts files: each begins on a line of its own."""
+    whole = b""
+    for text in texts:
+        whole += (b"\n" if whole and not whole.endswith(b"\n") else b"") + text
+    return whole
+
+
+def read_plan(paths=()):
+    """The network and the plan of the files, or of standard input. A fault is told on standard error by its record and word, with the
+    status 5."""
+    network, records = read_texts(joined(map(bytes_of, paths or ["-"])))
+    return network, Plan(records)
+
+
+def read_network(path):
+    """The network of a file, behind which nothing stands."""
+    records = records_within(bytes_of(path))
+    fault, count = network_fault(records, True)
+    if fault:
+        refuse(*fault)
+    return Network(records[:count])
+
+
+def read_texts(data):
+    """The network of an input, and the records of the plan text behind it."""
+    records = records_within(data)
     fault, count = network_fault(records, False)
     if fault:
         refuse(*fault)
@@ -24,12 +80,47 @@ def read_plan():
     fault = plan_fault(network, records[count:], count)
     if fault:
         refuse(*fault)
-    return network, Plan(records[count:])
+    return network, records[count:]
 
 
-def refuse(place, word):
-    print(f"{os.path.basename(sys.argv[0])}: fault in record {place}: {word}", file=sys.stderr)
-    sys.exit(5)
+def records_within(data):
+    if len(data) > LONGEST_INPUT:
+        refuse(0, "TooLong")
+    return records_of(data)
+
+
+def pivots_of(records):
+    """The log of a plan text: which arc enters, which leaves, and where that comes to rest."""
+    return [(int(r[2]), int(r[3]), r[4]) for r in records if r[0] == "pivot"]
+
+
+# ---- writing
+
+
+def write(records, file=None):
+    csv.writer(file or sys.stdout, lineterminator="\n").writerows(records)
+
+
+def made_plan(verdict, single, amounts):
+    """A plan that no text was read of: what stands in it once, and amounts by kind, name and period."""
+    plan = Plan([["netplan-plan", "1"], ["verdict", verdict]])
+    plan.single, plan.amounts = {word: str(value) for word, value in single.items()}, amounts
+    return plan
+
+
+def plan_records(network, plan):
+    """The records of a plan that certifies something, in the order in which the program writes them."""
+    records = [["netplan-plan", "1"], ["verdict", plan.verdict]] + [[word, value] for word, value in plan.single.items()]
+    kinds = {"optimal": ("flow", "price"), "infeasible": ("price",), "unbounded": ("flow", "ray")}[plan.verdict]
+    for word in kinds:
+        places = [(n, t) for t, n in network.supply] if word == "price" else [(f.name, t) for t, f in network.staged()]
+        records += [[word, name, t, plan.of(word, name, t)] for name, t in places]
+    return records + [["end"]]
+
+
+def fits(value):
+    """Whether a fraction fits the 128 bits of the program."""
+    return abs(value.numerator) <= LARGEST and value.denominator <= LARGEST
 
 
 # ---- decimals
