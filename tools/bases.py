@@ -79,7 +79,7 @@ class Basis:
     the others cost nothing; in the second stage the artificial ones have the upper bound 0."""
 
     def __init__(self, arcs, marks, seconds=None):
-        self.arcs, self.marks, self.stage, self.pivots = arcs, marks, 1, 0
+        self.arcs, self.marks, self.stage, self.pivots, self.turned = arcs, marks, 1, [], None
         self.deadline = None if seconds is None else time.monotonic() + seconds
         # In the second stage an artificial arc may be at its upper bound, which is 0 then.
         at_rest = {LOWER: arcs.lower, UPPER: arcs.upper[: arcs.real] + [ZERO] * arcs.nodes, BASIC: [ZERO] * len(marks)}
@@ -360,7 +360,7 @@ class Basis:
                 self.flow[a] += step * move
         mark = UPPER if moves[leave] > 0 else LOWER
         self.marks[enter], self.marks[leave] = BASIC, mark
-        self.pivots += 1
+        self.pivots.append((enter, leave, mark))
         self.still = self.still + 1 if step == 0 else 0
         self.refused.clear()
         if enter == leave:
@@ -414,7 +414,7 @@ class Basis:
             self.descend()
             if self.carried() != 0:
                 return self.shown("infeasible", self.potentials(), None)
-        self.stage = 2
+        self.stage, self.turned = 2, len(self.pivots)
         ray = self.descend()
         return self.shown("unbounded", None, ray) if ray else self.shown("optimal", self.potentials(), None)
 
@@ -458,3 +458,27 @@ def rounded(value):
 def artificial_basis(arcs):
     """The basis that `netplan solve` begins with."""
     return [LOWER] * arcs.real + [BASIC] * arcs.nodes
+
+
+def repaired(arcs, marks, seconds):
+    """A basis whose flows are within their bounds, from marks whose flows need not be: where a basic flow is outside of its bounds, it is put to the
+    bound, and the artificial arc of the node that it held takes its place. Answers how many arcs were exchanged so, too."""
+    marks, exchanged = list(marks), 0
+    while True:
+        basis = Basis(arcs, marks, seconds)
+        turned = [v for v in range(arcs.nodes) if basis.flow[arcs.real + v] < 0]
+        for v in turned:
+            arcs.turn_artificial(v, ONE if arcs.tail[arcs.real + v] < 0 else -ONE)
+        if turned:
+            continue
+        outside = 0
+        for v in range(arcs.nodes):
+            a = basis.up[v]
+            if not basis.is_within(a):
+                marks[a] = LOWER if basis.flow[a] < arcs.lower[a] else UPPER
+                marks[arcs.real + v] = BASIC
+                outside += 1
+        if outside == 0:
+            basis.stage = 1 if basis.carried() != 0 else 2
+            return basis, exchanged
+        exchanged += outside

@@ -4,6 +4,7 @@ The grammar of the texts is that of tests/texts.py. Whether a plan is right is n
 """
 import csv
 import os
+import re
 import sys
 from fractions import Fraction
 
@@ -15,6 +16,8 @@ from texts import LARGEST, LONGEST_INPUT, Network, Plan, network_fault, plan_fau
 if hasattr(sys, "set_int_max_str_digits"):
     sys.set_int_max_str_digits(0)
 
+# A fraction that may not fit 128 bits.
+LONG = re.compile(r"^-?(?=[0-9/]{40})[0-9]+(?:/0*[1-9][0-9]*)?$")
 REFUSED = 5  # the status of a text with a fault, as of the program
 UNREADABLE = 66  # and of a file that cannot be read, as of the launcher
 
@@ -77,10 +80,20 @@ def read_texts(data):
     if fault:
         refuse(*fault)
     network = Network(records[:count])
-    fault = plan_fault(network, records[count:], count)
+    return network, faultless(network, records[count:], count)
+
+
+def read_answer(network, path):
+    """The records of the plan text of a file."""
+    return faultless(network, records_within(bytes_of(path)), 0)
+
+
+def faultless(network, records, skipped):
+    """The records of a plan text behind so many others, as they are. Numbers of any length are taken, since tools/finish prints such."""
+    fault = plan_fault(network, [[LONG.sub("0", field) for field in record] for record in records], skipped)
     if fault:
         refuse(*fault)
-    return network, records[count:]
+    return records
 
 
 def records_within(data):
@@ -108,14 +121,25 @@ def made_plan(verdict, single, amounts):
     return plan
 
 
+def places_of(network, word):
+    """The names and periods of which a plan has such amounts, in their order."""
+    return [(n, t) for t, n in network.supply] if word == "price" else [(f.name, t) for t, f in network.staged()]
+
+
+def amount_records(network, plan, *kinds):
+    return [[word, name, t, plan.of(word, name, t)] for word in kinds for name, t in places_of(network, word)]
+
+
 def plan_records(network, plan):
     """The records of a plan that certifies something, in the order in which the program writes them."""
-    records = [["netplan-plan", "1"], ["verdict", plan.verdict]] + [[word, value] for word, value in plan.single.items()]
     kinds = {"optimal": ("flow", "price"), "infeasible": ("price",), "unbounded": ("flow", "ray")}[plan.verdict]
-    for word in kinds:
-        places = [(n, t) for t, n in network.supply] if word == "price" else [(f.name, t) for t, f in network.staged()]
-        records += [[word, name, t, plan.of(word, name, t)] for name, t in places]
-    return records + [["end"]]
+    single = [[word, value] for word, value in plan.single.items()]
+    return [["netplan-plan", "1"], ["verdict", plan.verdict]] + single + amount_records(network, plan, *kinds) + [["end"]]
+
+
+def log_records(pivots, turned):
+    """The log of so many pivots, and behind how many of them the second stage began, or None."""
+    return ([] if turned is None else [["turned", turned]]) + [["pivot", k, *pivot] for k, pivot in enumerate(pivots, 1)]
 
 
 def fits(value):
