@@ -29,7 +29,7 @@ def certify(network, plan):
     if long:
         more = f", and {len(long) - MOST_TOLD} more" if len(long) > MOST_TOLD else ""
         named = "; ".join(name for name, _ in long[:MOST_TOLD])
-        say(f"{several(len(long), 'number')} of it do not fit 128 bits, so `netplan check` refuses it: {named}{more}")
+        say(f"{several(len(long), 'number')} of it {'does' if len(long) == 1 else 'do'} not fit 128 bits, so `netplan check` refuses it: {named}{more}")
         return TOO_LONG
     if walk.past:
         say(f"its numbers fit 128 bits, but not those on the way of `netplan check`, which ends at row {walk.past[0]} ('{walk.past[1]}')")
