@@ -14,6 +14,7 @@ text { font-family: 'DejaVu Sans', Verdana, Arial, sans-serif; font-size: 12px; 
 .name { font-size: 13px; font-weight: bold }
 .full { font-weight: bold }
 .certifying { font-weight: bold; fill: #8a1c62 }
+.bound { font-weight: bold; fill: #8a1c62; text-decoration: underline }
 .raytext { fill: #a04000 }
 .node { fill: #fff; stroke: #333; stroke-width: 1.2 }
 .supply { fill: #e2eef8 }
@@ -21,9 +22,11 @@ text { font-family: 'DejaVu Sans', Verdana, Arial, sans-serif; font-size: 12px; 
 .flow { fill: none; stroke: #0072b2 }
 .ray { fill: none; stroke: #d55e00; stroke-dasharray: 9 3 }
 .idle { fill: none; stroke: #777; stroke-dasharray: 2 3 }
+.binding { stroke: #8a1c62; stroke-dasharray: none }
 .flowhead { fill: #0072b2 }
 .rayhead { fill: #d55e00 }
 .idlehead { fill: #777 }
+.bindinghead { fill: #8a1c62 }
 .ground { fill: #fff }
 .under { fill: #fff; fill-opacity: 0.85 }
 .square { fill: #fff; stroke: #333; stroke-width: 1 }
@@ -65,12 +68,16 @@ def draw_line(parent, kind, line, wide):
     long, half = 7 + wide / 3, 3 + wide / 2
     start, (end_x, end_y) = line.start, (x - heading * (long - 1), y)
     if line.lane is None:
-        path = f"M{number(start[0])},{number(start[1])} H{number(end_x)}"
+        path = f"M{number(start[0])},{number(start[1])} "
+        if line.broken:
+            (out_x, _), (in_x, in_y) = line.broken
+            path += f"H{number(out_x)} M{number(in_x)},{number(in_y)} "
+        path += f"H{number(end_x)}"
     else:
         path = bent(start, line.lane, line.outward, end_x, end_y)
     add(parent, "path", kind_=kind, d=path, stroke_width=wide)
     head = [(x, y), (x - heading * long, y - half), (x - heading * long, y + half)]
-    add(parent, "polygon", kind_=kind + "head", points=" ".join(f"{number(a)},{number(b)}" for a, b in head))
+    add(parent, "polygon", kind_=kind.split(" ")[-1] + "head", points=" ".join(f"{number(a)},{number(b)}" for a, b in head))
 
 
 def bent(start, lane, outward, end_x, end_y):
@@ -102,6 +109,6 @@ def draw_label(parent, x, y, leads_right, label, title):
     way = 1 if leads_right else -1
     draw_squares(group, x if leads_right else x - label.squares_width() + 4, y, label.squares)
     anchor = {} if leads_right else {"text-anchor": "end"}
-    text = add(group, "text", label.text, x=x + way * label.squares_width(), y=y, kind_="full" if label.is_bold else "words", **anchor)
+    text = add(group, "text", label.text, x=x + way * label.squares_width(), y=y, kind_="bound" if label.binds else "full" if label.is_bold else "words", **anchor)
     if label.ray:
         add(text, "tspan", label.ray, kind_="raytext", dx=RAY_SPACE)

@@ -34,9 +34,9 @@ def shares(flow, amount):
 class Label:
     """What stands beside a flow in a period: its amount, that along a ray, or its bounds where the verdict has no amounts."""
 
-    def __init__(self, plan, flow, period):
+    def __init__(self, plan, flow, period, binds=False):
         self.text, self.ray, self.squares = shortened(flow.name), "", []
-        self.is_bold = False
+        self.binds = self.is_bold = binds
         if plan.verdict not in ("optimal", "unbounded"):
             self.text += f" {bounds(flow)}" + ("" if flow.gain == 1 else f", ×{decimal(flow.gain)}")
             return

@@ -2,7 +2,8 @@
 
 Behind a column come drains and the words of holds, and the arcs that lead down, to a later node; before a column come feeds and the arcs that
 lead up. All columns are alike. In a row each line has a port of its own at the side of the box, so no two lines lie on each other. The words
-of an arc stand between two rows.
+of an arc stand between two rows. Where the periods are wider than the picture may be, they go on in a band of columns below: a hold between two bands
+leads out at the right and comes in at the left.
 """
 from collections import defaultdict
 from fractions import Fraction
@@ -16,6 +17,7 @@ LINE = 17  # room for a line of words
 MARGIN = 24
 HEADER = 84  # room above the nodes, for a verdict of one line and the numbers of the periods
 HEAD_LINE = 22
+BAND = 50  # between two bands of columns, with the numbers of the periods
 CORNER = 14
 
 
@@ -83,12 +85,13 @@ class Side:
 
 
 class Layout:
-    def __init__(self, network, plan, head_lines):
-        self.network, self.plan = network, plan
+    def __init__(self, network, plan, head_lines, widest=0, binding=()):
+        """With bands of at most so wide columns, where that is not 0, and with marks on the flows whose bounds bind, by name and period."""
+        self.network, self.plan, self.most = network, plan, widest
         self.top = HEADER + HEAD_LINE * (head_lines - 1)
         # Beside a flow a ray is drawn: each keeps so far from the middle of their place.
         self.aside = 5 if plan.verdict == "unbounded" else 0
-        self.labels = {(f.name, t): Label(plan, f, t) for t, f in network.staged()}
+        self.labels = {(f.name, t): Label(plan, f, t, (f.name, t) in binding) for t, f in network.staged()}
         rows = {node: k for k, node in enumerate(network.nodes)}
         arcs = [f for f in network.flows if f.kind == "arc"]
         self.at = defaultdict(list)
@@ -114,10 +117,20 @@ class Layout:
             side.arrange(words, lambda names: self.widest("arc", of=names), 2 * self.aside)
         self.first = MARGIN + self.up.room
         self.pitch = self.box + self.down.room + self.up.room
-        self.width = self.first + self.pitch * self.network.periods - self.up.room
+        room = self.most - self.first + self.up.room
+        self.columns = min(self.network.periods, max(1, int(room // self.pitch))) if self.most else self.network.periods
+        self.width = self.first + self.pitch * self.columns - self.up.room
 
     def left(self, period):
-        return self.first + (period - 1) * self.pitch
+        return self.first + (period - 1) % self.columns * self.pitch
+
+    def down_by(self, period):
+        """How far below the first band that of a period is."""
+        return (period - 1) // self.columns * self.band
+
+    def is_broken(self, flow, period):
+        """Whether a hold leads to the next band."""
+        return flow.kind == "hold" and period % self.columns == 0
 
     def right(self, period):
         return self.left(period) + self.box
@@ -135,7 +148,8 @@ class Layout:
             self.tops[node], self.heights[node] = top, self.place_ports(row, node, top)
             self.gaps[row] = top + self.heights[node] + 8
             top = self.gaps[row] + 12 + LINE * max(self.down.lines_in(row), self.up.lines_in(row))
-        self.bottom = top
+        self.band = top - self.top + BAND
+        self.bottom = top + self.band * ((self.network.periods - 1) // self.columns)
 
     def place_ports(self, row, node, top):
         """The ports of a node whose box begins at the top, and its height: above, the arcs from above, drains and feeds; then the holds, at
@@ -159,26 +173,35 @@ class Layout:
 
 class Line:
     """The way of a flow in a period, or of its ray: from where it starts to where it ends, with the lane between them where it has one, and
-    whether it leads to the right where it starts and where it ends."""
+    whether it leads to the right where it starts and where it ends. A line that is broken has the places where it leads out and comes in."""
 
     def __init__(self, layout, flow, period, aside):
         node = flow.tail or flow.head
-        self.lane, self.outward = None, 1
-        start_y = end_y = layout.ports[node, flow.name] + aside
+        self.lane, self.broken, self.outward = None, None, 1
+        start_y = end_y = layout.ports[node, flow.name] + layout.down_by(period) + aside
         self.start, self.end = (layout.right(period), start_y, 1), (layout.right(period) + STUB, end_y, 1)
         if flow.kind == "feed":
             self.start, self.end = (layout.left(period) - STUB, start_y, 1), (layout.left(period), end_y, 1)
         elif flow.kind == "hold":
-            self.end = (layout.left(period + 1), end_y, 1)
+            self.keep(layout, flow, period, start_y)
         elif flow.kind == "arc":
             self.lead(layout, flow, period, aside)
+
+    def keep(self, layout, flow, period, y):
+        """A hold, to the next column or the next band."""
+        if not layout.is_broken(flow, period):
+            self.end = (layout.left(period + 1), y, 1)
+            return
+        below = y + layout.band
+        self.end = (layout.left(period + 1), below, 1)
+        self.broken = (layout.right(period) + layout.down.room, y), (layout.left(period + 1) - layout.up.room, below)
 
     def lead(self, layout, flow, period, aside):
         """An arc by its lane. A ray goes round its flow, on the outer side."""
         self.outward = 1 if flow.name in layout.down.place else -1
         side = layout.right(period) if self.outward > 0 else layout.left(period)
         self.lane = layout.lane_x(flow.name, period) + self.outward * aside
-        ys = [layout.ports[node, flow.name] for node in (flow.tail, flow.head)]
+        ys = [layout.ports[node, flow.name] + layout.down_by(period) for node in (flow.tail, flow.head)]
         falls = ys[0] < ys[1]
         ys = [ys[0] - aside, ys[1] + aside] if falls else [ys[0] + aside, ys[1] - aside]
         self.start, self.end = (side, ys[0], self.outward), (side, ys[1], -self.outward)
@@ -187,4 +210,5 @@ class Line:
         """The same way from its end to its start, for an amount below 0."""
         (x, y, heading), (other_x, other_y, other_heading) = self.start, self.end
         self.start, self.end = (other_x, other_y, -other_heading), (x, y, -heading)
+        self.broken = self.broken and self.broken[::-1]
         return self
