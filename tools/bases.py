@@ -9,6 +9,7 @@ from fractions import Fraction
 from plans import made_plan
 
 ZERO, ONE = Fraction(0), Fraction(1)
+SHORT = 60  # bits: sums and products of two such numbers fit 128 bits, mostly
 LOWER, UPPER, BASIC = "lower", "upper", "basic"
 
 
@@ -359,18 +360,23 @@ class Basis:
             for a, move in moves.items():
                 self.flow[a] += step * move
         mark = UPPER if moves[leave] > 0 else LOWER
-        self.marks[enter], self.marks[leave] = BASIC, mark
+        if enter == leave:
+            self.marks[enter] = mark
         self.pivots.append((enter, leave, mark))
         self.still = self.still + 1 if step == 0 else 0
         self.refused.clear()
-        if enter == leave:
-            return
+        if enter != leave:
+            self.approach(self.exchange(enter, leave, mark))
+
+    def exchange(self, enter, leave, mark):
+        """Puts an arc into the basis in place of another one, and answers the pieces that come of it."""
+        self.marks[enter], self.marks[leave] = BASIC, mark
         nodes = []
-        for piece in {id(self.piece[v]): self.piece[v] for v in (self.arcs.tail[enter], self.arcs.head[enter]) if v >= 0}.values():
+        for piece in {id(self.piece[v]): self.piece[v] for v in (self.arcs.tail[enter], self.arcs.head[enter], self.arcs.tail[leave], self.arcs.head[leave]) if v >= 0}.values():
             nodes += piece.order
         self.take_out(leave)
         self.place(enter)
-        self.approach(self.build(nodes))
+        return self.build(nodes)
 
     def descend(self):
         """Pivots until no arc may enter, where None is answered, or to a direction that nothing ends. Mostly the arcs are chosen by prices in
@@ -397,6 +403,57 @@ class Basis:
                 return moves
             self.pivot(enter, moves, least, leave)
 
+    # ---- short prices
+
+    def beyond(self, v):
+        """The nodes that hang from a node, and by how much the price of each moves with that of the node."""
+        moves, order = {v: ONE}, [v]
+        for w in order:
+            for a in self.at[w]:
+                x = self.other(a, w)
+                if x >= 0 and a != self.up[w] and x not in moves:
+                    moves[x] = moves[w] * self.arcs.gain[a] if self.arcs.tail[a] == x else moves[w] / self.arcs.gain[a]
+                    order.append(x)
+        return moves
+
+    def tightest(self, moves, way, potentials, touching):
+        """How far prices may move in a way, up or down, and the arc that then costs nothing: the first that would become wrong."""
+        arcs, least, enter = self.arcs, None, None
+        for a in {a for w in moves for a in touching[w]}:
+            if self.marks[a] == BASIC or not self.room[a]:
+                continue
+            tail, head = arcs.tail[a], arcs.head[a]
+            by = way * (arcs.gain[a] * moves.get(head, ZERO) - moves.get(tail, ZERO))
+            if by < 0 if self.marks[a] == LOWER else by > 0:
+                reduced = self.price(a) - (potentials[tail] if tail >= 0 else 0) + (arcs.gain[a] * potentials[head] if head >= 0 else 0)
+                if least is None or -reduced / by < least:
+                    least, enter = -reduced / by, a
+        return least, enter
+
+    def shorten(self):
+        """Exchanges arcs at their bounds for others, so that the flows stay and long prices become shorter. Each node is tried once, those
+        farthest from the extra arcs first."""
+        arcs, potentials = self.arcs, self.potentials()
+        touching = [[] for _ in range(arcs.nodes)]
+        for a in range(arcs.real):
+            for v in (arcs.tail[a], arcs.head[a]):
+                if v >= 0:
+                    touching[v].append(a)
+        for v in sorted(range(arcs.nodes), key=lambda w: -self.depth[w]):
+            a = self.up[v]
+            at_lower = a < arcs.real and self.flow[a] == arcs.lower[a]
+            is_held = a < arcs.real and (at_lower or self.flow[a] == arcs.upper[a]) and not (self.piece[v].cycle and self.depth[v] == 0)
+            if not is_held or bits(potentials[v]) <= SHORT or self.deadline is not None and time.monotonic() > self.deadline:
+                continue
+            moves = self.beyond(v)
+            way = (-1 if arcs.tail[a] == v else 1) * (1 if at_lower else -1)
+            step, enter = self.tightest(moves, way, potentials, touching)
+            if enter is None or bits(potentials[v] + way * step) >= bits(potentials[v]):
+                continue
+            for w, move in moves.items():
+                potentials[w] += way * step * move
+            self.exchange(enter, a, LOWER if at_lower else UPPER)
+
     # ---- runs
 
     def is_within(self, a):
@@ -413,10 +470,10 @@ class Basis:
             self.stage = 1
             self.descend()
             if self.carried() != 0:
-                return self.shown("infeasible", self.potentials(), None)
+                return self.shown("infeasible")
         self.stage, self.turned = 2, len(self.pivots)
         ray = self.descend()
-        return self.shown("unbounded", None, ray) if ray else self.shown("optimal", self.potentials(), None)
+        return self.shown("unbounded", ray) if ray else self.shown("optimal")
 
     def cost(self):
         return sum((self.arcs.cost[a] * self.flow[a] for a in range(self.arcs.real) if self.flow[a] != 0), ZERO)
@@ -431,7 +488,7 @@ class Basis:
                 found[place] = found.get(place, ZERO) + amount
         return found
 
-    def shown(self, verdict, potentials, ray):
+    def shown(self, verdict, ray=None):
         """The plan that this basis shows."""
         network, single, amounts = self.arcs.network, {}, {}
         if verdict == "infeasible":
@@ -443,8 +500,13 @@ class Basis:
         if verdict == "unbounded":
             amounts.update(self.amounts("ray", ray.items()))
         else:
-            amounts.update((("price", n, t), potential) for (t, n), potential in zip(network.supply, potentials))
+            amounts.update((("price", n, t), potential) for (t, n), potential in zip(network.supply, self.potentials()))
         return made_plan(verdict, single, amounts)
+
+
+def bits(value):
+    """How long the longer part of a fraction is."""
+    return max(value.numerator.bit_length(), value.denominator.bit_length())
 
 
 def rounded(value):
