@@ -1,13 +1,14 @@
 """What `netplan` answers to `check` and `expand`, and the verdict and cost of `solve`, written a second time from docs/FORMATS.md in plain
 Python, for tests/differential.
 
-It knows nothing of the program: it takes records as lists of strings, which tests/texts.py reads, and computes with Python's fractions.
-It does not know when a result no longer fits 128 bits, so numbers are to be small.
+It knows nothing of the program: it takes records as lists of strings, which tests/texts.py reads, and computes with Python's fractions, with the
+operations of tests/sums.py where one may not fit 128 bits.
 """
 import csv
 import io
 from fractions import Fraction
 
+from sums import Balances, Overflow, add_cost, add_gap, add_product, ends_of, in_row, reduced_cost
 from texts import NEEDED, Network, Plan, network_fault, plan_fault
 
 
@@ -35,39 +36,34 @@ def expanded(network):
 
 
 class Walk:
-    """The clauses of a plan in their order: each yields the line that rejects it, where it fails."""
+    """The clauses of a plan in their order: each yields the line that rejects it, where it fails; an operation that does not fit ends the walk."""
 
     def __init__(self, network, plan):
         self.network, self.plan, self.staged = network, plan, network.staged()
 
     def reduced(self, period, flow, slope):
-        cost = slope
-        if flow.tail is not None:
-            cost -= self.plan.of("price", flow.tail, period)
-        if flow.head is not None:
-            later = period + 1 if flow.kind == "hold" else period
-            cost += flow.gain * self.plan.of("price", flow.head, later)
-        return cost
+        tail = None if flow.tail is None else self.plan.of("price", flow.tail, period)
+        head = None if flow.head is None else self.plan.of("price", flow.head, later(flow, period))
+        return in_row("C3", reduced_cost, tail, head, flow.gain, slope)
 
     def balances(self, word):
-        balance = {place: Fraction(0) for place in self.network.supply}
+        """What the flows or the ray take from each node in each period, as sums that may not fit."""
+        balances = Balances(self.network.supply)
         for t, flow in self.staged:
-            amount = self.plan.of(word, flow.name, t)
-            if flow.tail is not None:
-                balance[t, flow.tail] += amount
-            if flow.head is not None:
-                balance[t + 1 if flow.kind == "hold" else t, flow.head] -= flow.gain * amount
-        return balance
+            tail, head = flow.tail and (t, flow.tail), flow.head and (later(flow, t), flow.head)
+            balances.add(tail, head, flow.gain, self.plan.of(word, flow.name, t))
+        return balances
 
-    def balance(self, word, clause, wanted):
-        balance = self.balances(word)
+    def balance(self, word, row, clause, wanted):
+        balances = self.balances(word)
         for (t, node), amount in wanted.items():
-            if balance[t, node] != amount:
+            if in_row(row, balances.at, (t, node)) != amount:
                 yield ["rejected", clause, node, t]
 
     def bound(self):
         for t, flow in self.staged:
             amount, end = self.plan.of("flow", flow.name, t), flow.last_end()
+            in_row("C2", ends_of, *flow.widths())
             if amount < flow.lower or end is not None and end < amount:
                 yield ["rejected", "bound", flow.name, t]
 
@@ -81,20 +77,33 @@ class Walk:
             if (end is None or amount < end) and self.reduced(t, flow, right[0]) < 0:
                 yield ["rejected", "reduced", flow.name, t]
 
+    def summed_cost(self):
+        cost = Fraction(0)
+        for t, flow in self.staged:
+            cost = in_row("C4", add_cost, cost, flow.segments, self.plan.of("flow", flow.name, t))
+        return cost
+
     def cost(self):
-        if sum(f.cost_of(self.plan.of("flow", f.name, t)) for t, f in self.staged) != Fraction(self.plan.single["cost"]):
+        if self.summed_cost() != Fraction(self.plan.single["cost"]):
             yield ["rejected", "cost"]
 
     def upper(self):
         for t, flow in self.staged:
-            if self.reduced(t, flow, 0) < 0 and flow.last_end() is None:
+            if self.reduced(t, flow, Fraction(0)) < 0 and flow.last_end() is None:
                 yield ["rejected", "upper", flow.name, t]
+        for _, flow in self.staged:
+            in_row("C2", ends_of, *flow.widths())
+
+    def summed_gap(self):
+        gap = Fraction(0)
+        for (t, node), amount in self.network.supply.items():
+            gap = in_row("C5", add_product, gap, self.plan.of("price", node, t), amount)
+        for t, flow in self.staged:
+            gap = in_row("C5", add_gap, gap, self.reduced(t, flow, Fraction(0)), flow.lower, flow.last_end())
+        return gap
 
     def gap(self):
-        gap = sum(self.plan.of("price", node, t) * amount for (t, node), amount in self.network.supply.items())
-        for t, flow in self.staged:
-            reduced = self.reduced(t, flow, 0)
-            gap += reduced * (flow.lower if reduced > 0 else flow.last_end() if reduced < 0 else 0)
+        gap = self.summed_gap()
         if gap <= 0 or gap != Fraction(self.plan.single["gap"]):
             yield ["rejected", "gap"]
 
@@ -107,25 +116,36 @@ class Walk:
                 yield ["rejected", "ray-upper", flow.name, t]
 
     def ray_cost(self):
-        if sum(f.segments[-1][2] * self.plan.of("ray", f.name, t) for t, f in self.staged) >= 0:
+        cost = Fraction(0)
+        for t, flow in self.staged:
+            cost = in_row("C6", add_product, cost, flow.segments[-1][2], self.plan.of("ray", flow.name, t))
+        if cost >= 0:
             yield ["rejected", "ray-cost"]
 
     def clauses(self):
         supply = self.network.supply
-        feasible = [self.balance("flow", "balance", supply), self.bound()]
+        feasible = [self.balance("flow", "C1", "balance", supply), self.bound()]
         return {
             "optimal": feasible + [self.reduced_costs(), self.cost()],
             "infeasible": [self.upper(), self.gap()],
-            "unbounded": feasible + [self.ray(), self.balance("ray", "ray-balance", dict.fromkeys(supply, 0)), self.ray_cost()],
+            "unbounded": feasible + [self.ray(), self.balance("ray", "C6", "ray-balance", dict.fromkeys(supply, 0)), self.ray_cost()],
         }.get(self.plan.verdict, [iter([["rejected", "uncertified"]])])
 
     def line(self):
         """The line that the checker prints."""
-        for clause in self.clauses():
-            for rejected in clause:
-                return rejected
+        try:
+            for clause in self.clauses():
+                for rejected in clause:
+                    return rejected
+        except Overflow as told:
+            return ["past", told.row, *told.past]
         single = self.plan.single.get(NEEDED.get(self.plan.verdict))
         return ["accepted", self.plan.verdict] + ([Fraction(single)] if single is not None else [])
+
+
+def later(flow, period):
+    """The period in which what a flow takes away arrives."""
+    return period + 1 if flow.kind == "hold" else period
 
 
 # ---- the least cost
@@ -235,4 +255,4 @@ def answer(command, records):
     if fault:
         return refused(fault)
     line = Walk(network, Plan(records[count:])).line()
-    return (0 if line[0] == "accepted" else 10), text_of([["netplan-check", 1], line, ["end"]])
+    return {"accepted": 0, "past": 4, "rejected": 10}[line[0]], text_of([["netplan-check", 1], line, ["end"]])

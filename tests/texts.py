@@ -62,6 +62,10 @@ class Flow:
     def last_end(self):
         return self.segments[-1][1]
 
+    def widths(self):
+        """The end of its own segment, and the widths of its pieces."""
+        return self.segments[0][1], [None if end is None else end - start for start, end, _ in self.segments[1:]]
+
     def cost_of(self, amount):
         start, end, slope = self.segments[0]
         cost = slope * lesser(amount, end)
