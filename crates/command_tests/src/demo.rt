@@ -11,9 +11,11 @@ use std::str;
 use std::test::Fail;
 use std::thread::Threads;
 
+// The summary of the demo of 1, whose cost is found by hand.
+const FIRST: &str = "netplan-demo,1 | demo,1 | size,8,31 | verdict,optimal | cost,225/8 | end";
+
 // Numbers, and what begins their summaries, in each line.
-const SIZES: &str = "1 > netplan-demo,1 | demo,1 | size,8,31 | verdict,optimal | cost,225/8 | end
-2 > netplan-demo,1 | demo,2 | size,16,94 | verdict,optimal
+const SIZES: &str = "2 > netplan-demo,1 | demo,2 | size,16,94 | verdict,optimal
 7 > netplan-demo,1 | demo,7 | size,56,273 | verdict,optimal
 10 > netplan-demo,1 | demo,10 | size,80,470 | verdict,optimal";
 
@@ -35,6 +37,13 @@ fn is_row(rt: &(impl Threads + Sync), alloc: Global, row: &str) -> Result<bool, 
     let words = format!(in alloc; "demo {number}")?;
     let told = told_of(rt, alloc, words.as_str(), Vec::new(alloc))?;
     Ok(told.status == 0 && told.text.as_slice().starts_with(want.as_slice()))
+}
+
+#[test]
+fn sums_up_the_first(rt: HostRuntime) -> Result<(), Fail> {
+    let told = told_of(&rt, rt.alloc(), "demo 1", Vec::new(rt.alloc()))?;
+    assert!(rt; told.is(rt.alloc(), 0, FIRST)?);
+    Ok(())
 }
 
 #[test]

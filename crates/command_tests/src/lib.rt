@@ -10,6 +10,8 @@ mod expand;
 #[cfg(test)]
 mod fixtures;
 #[cfg(test)]
+mod overflows;
+#[cfg(test)]
 mod solve;
 #[cfg(test)]
 mod streams;

@@ -19,6 +19,10 @@ const ACCEPTED: &str = "netplan-check,1 | accepted,optimal,3 | end";
 const USAGE: &str = "netplan-usage,1 | usage,solve [--workers N] [--budget N] [--log] | \
     usage,check | usage,expand | usage,demo N | end";
 
+// A reservoir over two months.
+const RESERVOIR: &str = "netplan,1 | periods,2 | node,A | supply,A,1,55 | supply,A,2,-45 | \
+    hold,keep,A,9/10,0,inf,1 | drain,spill,A,0,inf,0 | end";
+
 // Words that are no command, in each line; none in the first.
 const NO_COMMANDS: &str = "
 check check
@@ -102,6 +106,29 @@ fn tells_that_the_source_failed(rt: HostRuntime) -> Result<(), Fail> {
         let (told, _) = told_from(&rt, rt.alloc(), words, BASE, 100, &[1])?;
         assert_eq!(rt; told.status, 7);
         assert!(rt; told.text.is_empty());
+    }
+    Ok(())
+}
+
+#[test]
+fn tells_at_which_byte_the_source_failed(rt: HostRuntime) -> Result<(), Fail> {
+    let length = bytes_of(rt.alloc(), RESERVOIR)?.len() as u64;
+    for call in 1..length + 2 {
+        let (told, _) = told_from(&rt, rt.alloc(), "solve", RESERVOIR, 1, &[call])?;
+        assert_eq!(rt; told.status, 7);
+        assert!(rt; told.text.is_empty());
+    }
+    let (told, _) = told_from(&rt, rt.alloc(), "solve", RESERVOIR, 1, &[length + 2])?;
+    assert_eq!(rt; told.status, 0);
+    Ok(())
+}
+
+#[test]
+fn wants_an_end_of_no_bytes(rt: HostRuntime) -> Result<(), Fail> {
+    let refusal = "netplan-refused,1 | fault,1,NoEnd | end";
+    for words in ["solve", "check", "expand"] {
+        let told = told_at(&rt, rt.alloc(), words, Vec::new(rt.alloc()), 100, &OpenGate)?;
+        assert!(rt; told.is(rt.alloc(), 5, refusal)?, "{words}");
     }
     Ok(())
 }
