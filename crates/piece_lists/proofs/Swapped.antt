@@ -8,8 +8,8 @@ use Rattle.gain_graphs.proofs.Lists.{in_map, in_map_of}
 use Rattle.np_frac.specs.Ratio.{Ratio}
 use Rattle.np_model.specs.declared.arc.Ends.{Ends}
 use Rattle.tree_search.specs.Places.{numbers_of_arcs}
-use Rattle.piece_lists.specs.declared.flowing.FlowRefusal.{FlowRefusal}
-use Rattle.piece_lists.specs.declared.flowing.FlowRefusal.TheVariants as refusal
+use Rattle.piece_lists.specs.declared.refusal.MoveRefusal.{MoveRefusal}
+use Rattle.piece_lists.specs.declared.refusal.MoveRefusal.TheVariants as refusal
 use Rattle.piece_lists.specs.Merged.{IsMerged}
 use Rattle.piece_lists.specs.Flowing.{IsMoved, AreFlowsOf, AreFlowsAfter, IsFirstPast}
 use Rattle.piece_lists.specs.Steps.{AreMoved}
@@ -58,9 +58,9 @@ module _ (basics all : List (ℕ × Ends × Ratio)) (entering : ℕ × Ends × R
   flows_of_all : (flow : ℕ → Ratio) → AreFlowsOf flow (entering ∷ basics) → AreFlowsOf flow all
   flows_of_all flow h b i = h b ((with_entering b).0 i)
 
-  pub first_past : (steps : List (ℕ × Ratio)) (t : Ratio) (r : FlowRefusal) → IsFirstPast all steps t r → IsFirstPast (entering ∷ basics) steps t r
-  first_past steps t (refusal.Past past) h = λ flow f. h flow (flows_of_all flow f)
-  first_past steps t refusal.Memory h = record {}
+  pub first_past : (enter : ℕ) (steps : List (ℕ × Ratio)) (t : Ratio) (r : MoveRefusal) → IsFirstPast all enter steps t r → IsFirstPast (entering ∷ basics) enter steps t r
+  first_past enter steps t (refusal.Past overflow) h = (h.0, h.1, (λ flow f. h.2 flow (flows_of_all flow f)))
+  first_past enter steps t refusal.Memory h = record {}
 
   pub after_is : (leave : ℕ) (steps : List (ℕ × Ratio)) (t : Ratio) (moved rest : List (ℕ × Ends × Ratio)) → AreMoved all steps t moved → rest ≡ filter (λ x. not (x.0 == leave)) moved → AreFlowsAfter basics entering leave steps t rest
   after_is leave steps t moved rest w e = record {

@@ -8,8 +8,10 @@ use Rattle.np_frac.specs.Fits.{Fits}
 use Rattle.np_model.specs.declared.arc.Ends.{Ends}
 use Rattle.np_model.specs.Rows.Arcs.{flow_after}
 use Rattle.tree_search.specs.Places.{numbers_of_arcs}
-use Rattle.piece_lists.specs.declared.flowing.FlowRefusal.{FlowRefusal}
-use Rattle.piece_lists.specs.declared.flowing.FlowRefusal.TheVariants as refusal
+use Rattle.np_model.specs.declared.rows.Place.TheVariants.{Arc}
+use Rattle.np_model.specs.declared.rows.Row.TheVariants.{A6}
+use Rattle.piece_lists.specs.declared.refusal.MoveRefusal.{MoveRefusal}
+use Rattle.piece_lists.specs.declared.refusal.MoveRefusal.TheVariants as refusal
 use Rattle.np_model.specs.Rows.Moving.{numbers_of_steps, new_flows}
 
 -- these are the flows of the arcs, by their numbers
@@ -31,7 +33,8 @@ pub record AreFlowsAfter (basics : List (ℕ × Ends × Ratio)) (entering : ℕ 
   pub moved : (c : ℕ × Ends × Ratio) → IsIn c after → (b : ℕ × Ends × Ratio) × IsIn b (entering ∷ basics) × IsMoved steps t b c
   pub fit : (flow : ℕ → Ratio) → AreFlowsOf flow (entering ∷ basics) → IsOk (new_flows steps t flow)
 
--- the operation is the first one of row A6 that overflows
-abbrev pub IsFirstPast : List (ℕ × Ends × Ratio) → List (ℕ × Ratio) → Ratio → FlowRefusal → Type 0
-IsFirstPast arcs steps t (refusal.Past past) = (flow : ℕ → Ratio) → AreFlowsOf flow arcs → new_flows steps t flow ≡ Err past
-IsFirstPast arcs steps t refusal.Memory = ⊤
+-- the operation is the first one of row A6 that overflows, told at the arc that enters
+abbrev pub IsFirstPast : List (ℕ × Ends × Ratio) → ℕ → List (ℕ × Ratio) → Ratio → MoveRefusal → Type 0
+IsFirstPast arcs enter steps t (refusal.Past overflow) =
+    (overflow.row ≡ A6) × (overflow.place ≡ Arc enter) × ((flow : ℕ → Ratio) → AreFlowsOf flow arcs → new_flows steps t flow ≡ Err overflow.past)
+IsFirstPast arcs enter steps t refusal.Memory = ⊤

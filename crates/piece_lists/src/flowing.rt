@@ -11,29 +11,10 @@ ghost use Rattle.np_model.specs.Rows.Moving.{numbers_of_steps};
 ghost use Rattle.piece_lists.specs.Steps.{AreMoved, IsAmountAt};
 
 use crate::numbered::{merged, without};
+use crate::refusal::MoveRefusal;
 use np_frac::{Frac, Memory, Past};
-use np_model::Ends;
+use np_model::{Ends, Overflow, Place, Row};
 use std::alloc::Global;
-
-/// Why there are no new flows.
-#[derive(Clone, Copy, Debug, PartialEq, Eq)]
-pub enum FlowRefusal {
-    /// An operation of row A6 overflows: the first one, in ascending number of the arcs that move.
-    Past(Past),
-    /// There is not enough memory.
-    Memory,
-}
-
-impl From<Memory> for FlowRefusal {
-    ghost use Rattle.std.specs.Prelude.{◌≡◌};
-    ghost use Rattle.piece_lists.specs.declared.flowing.FlowRefusal.TheVariants as refusal;
-
-    ghost from_gives = { λ _ e. e ≡ refusal.Memory };
-
-    fn from(_memory: Memory) -> FlowRefusal {
-        FlowRefusal::Memory
-    }
-}
 
 // The flow after a step along an amount.
 fn flow_after(step: Frac, flow: Frac, amount: Frac) -> Result<Frac, Past>
@@ -95,17 +76,19 @@ fn amount_of(steps: &[(u32, Frac)], place: usize, arc: u32) -> Option<Frac>
     None
 }
 
-// The arcs after a step, each with its new flow. The steps are amounts on some of the arcs; both lists ascend, and are gone over once.
+// The arcs after a step, each with its new flow. The steps are amounts on some of the arcs; both lists ascend, and are gone over once. An
+// overflow is told at the arc that enters.
 fn moved(
     alloc: Global,
     arcs: &[(u32, Ends, Frac)],
+    enter: u32,
     steps: &[(u32, Frac)],
     step: Frac,
-) -> Result<Vec<(u32, Ends, Frac)>, FlowRefusal>
+) -> Result<Vec<(u32, Ends, Frac)>, MoveRefusal>
     requires arcs_ascend { IsStrictlyIncreasing (numbers_of_arcs arcs.now) }
     requires steps_ascend { IsStrictlyIncreasing (numbers_of_steps steps.now) }
     requires own { (a : ℕ) → IsIn a (numbers_of_steps steps.now) → IsIn a (numbers_of_arcs arcs.now) }
-    ensures { MatchResult result (λ after. AreMoved arcs.now steps.now step after.items) (IsFirstPast arcs.now steps.now step) }
+    ensures { MatchResult result (λ after. AreMoved arcs.now steps.now step after.items) (IsFirstPast arcs.now enter steps.now step) }
 {
     let mut list = with_room(alloc, arcs.len())?;
     let mut next = 0;
@@ -116,7 +99,13 @@ fn moved(
         };
         let flow = match flow_after(step, arc.2, amount) {
             Ok(flow) => flow,
-            Err(past) => return Err(FlowRefusal::Past(past)),
+            Err(past) => {
+                return Err(MoveRefusal::Past(Overflow {
+                    row: Row::A6,
+                    place: Place::Arc(enter),
+                    past,
+                }));
+            }
         };
         list = pushed(list, (arc.0, arc.1, flow))?;
         next += 1;
@@ -127,8 +116,8 @@ fn moved(
 /// The basic arcs after a pivot: with the arc that enters, each with its flow after the step along these amounts, and without the arc that
 /// leaves. The amounts are those of a direction, in ascending number of their arcs, which are basic or the one that enters.
 ///
-/// [`FlowRefusal::Past`] exactly where an operation of row A6 overflows, on whichever of the arcs that move, the one that leaves among them:
-/// the first one in ascending number of the arcs is told. Takes time in proportion to both lists.
+/// [`MoveRefusal::Past`] exactly where an operation of row A6 overflows, on whichever of the arcs that move, the one that leaves among them:
+/// the first one in ascending number of the arcs is told, at the arc that enters. Takes time in proportion to both lists.
 pub fn flows_after(
     alloc: Global,
     basics: &[(u32, Ends, Frac)],
@@ -136,15 +125,16 @@ pub fn flows_after(
     leave: u32,
     steps: &[(u32, Frac)],
     step: Frac,
-) -> Result<Vec<(u32, Ends, Frac)>, FlowRefusal>
+) -> Result<Vec<(u32, Ends, Frac)>, MoveRefusal>
     requires basics_ascend { IsStrictlyIncreasing (numbers_of_arcs basics.now) }
     requires steps_ascend { IsStrictlyIncreasing (numbers_of_steps steps.now) }
     requires enters { ¬ IsIn entering.0 (numbers_of_arcs basics.now) }
     requires own { (a : ℕ) → IsIn a (numbers_of_steps steps.now) → IsIn a (entering.0 ∷ numbers_of_arcs basics.now) }
-    ensures { MatchResult result (λ after. AreFlowsAfter basics.now entering leave steps.now step after.items) (IsFirstPast (entering ∷ basics.now) steps.now step) }
+    ensures { MatchResult result (λ after. AreFlowsAfter basics.now entering leave steps.now step after.items) (IsFirstPast (entering ∷ basics.now) entering.0 steps.now step) }
 {
+    let enter = entering.0;
     let all = merged(alloc, basics, &[entering])?;
-    let after = match moved(alloc, all.as_slice(), steps, step) {
+    let after = match moved(alloc, all.as_slice(), enter, steps, step) {
         Ok(after) => after,
         Err(refusal) => return Err(refusal),
     };

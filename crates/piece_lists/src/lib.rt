@@ -6,8 +6,10 @@ mod joining;
 mod numbered;
 mod parts;
 mod pieces;
+mod refusal;
 
-pub use flowing::{FlowRefusal, flows_after};
+pub use flowing::flows_after;
 pub use joining::{both, marks_after};
 pub use numbered::{Numbered, merged, picked, without};
 pub use pieces::pieces_over;
+pub use refusal::MoveRefusal;

@@ -1,5 +1,5 @@
 -- Steps of the code: whether an arc may enter, and the move that the ratio test finds.
-use Rattle.std.specs.Prelude.{◌≡◌, ℕ, List, Err, ⊤}
+use Rattle.std.specs.Prelude.{◌≡◌, ℕ, Option, Some, None, List, ⊤}
 use Rattle.np_frac.specs.Ratio.{Ratio}
 use Rattle.np_model.specs.declared.log.Entry.{Entry}
 use Rattle.np_model.specs.declared.piece.Hands.{Hands}
@@ -11,20 +11,18 @@ use Rattle.np_model.specs.Basis.Pieces.{PieceLists}
 use Rattle.np_model.specs.Basis.Sound.{values_in}
 use Rattle.quasi_tree.specs.Store.{Store}
 use Rattle.piece_lists.specs.Parts.{lists_in}
-use Rattle.np_model.specs.Rows.Prices.{price_of}
 use Rattle.tree_flows.specs.declared.refusal.DirRefusal.{DirRefusal}
 use Rattle.tree_flows.specs.declared.refusal.DirRefusal.TheVariants as direction
-use Rattle.pivot_step.specs.declared.testing.Tested.{Tested}
-use Rattle.pivot_step.specs.declared.testing.Tested.TheVariants as tested
+use Rattle.pivot_step.specs.declared.testing.Standing.{Standing}
 use Rattle.np_model.specs.Basis.Attempts.{PriceFits, MoveOverflows}
 use Rattle.pivot_step.specs.Overflows.{IsMade}
 
--- whether the arc may enter, with its mark and its flow; or the overflow of its price
-abbrev pub IsTested : Network → ℕ → List PieceLists → ℕ → Tested → Type 0
-IsTested net real pieces arc (tested.Eligible mark flow) =
-    PriceFits net real pieces arc × IsEligible net real (values_in net pieces) arc × (mark ≡ (values_in net pieces).mark arc) × (flow ≡ (values_in net pieces).flow arc)
-IsTested net real pieces arc tested.NotEligible = PriceFits net real pieces arc × (¬ IsEligible net real (values_in net pieces) arc)
-IsTested net real pieces arc (tested.Past overflow) = price_of net (values_in net pieces).potential arc ≡ Err overflow
+-- whether the arc may enter, with its mark and its flow
+abbrev pub IsTested : Network → ℕ → List PieceLists → ℕ → Option Standing → Type 0
+IsTested net real pieces arc (Some found) =
+    PriceFits net real pieces arc × IsEligible net real (values_in net pieces) arc × (found.mark ≡ (values_in net pieces).mark arc)
+    × (found.flow ≡ (values_in net pieces).flow arc)
+IsTested net real pieces arc None = PriceFits net real pieces arc × (¬ IsEligible net real (values_in net pieces) arc)
 
 -- the answer to a move
 abbrev pub IsMoved : Network → ℕ → List PieceLists → Entry → List (ℕ × Ratio) → Ratio → Prepared (Hands Store) → Type 0

@@ -8,33 +8,26 @@ use Rattle.np_model.specs.declared.log.Entry.{Entry}
 use Rattle.np_model.specs.declared.log.Mark.{Mark}
 use Rattle.np_model.specs.declared.rows.Overflow.{Overflow}
 use Rattle.np_model.specs.declared.rows.Place.TheVariants.{Arc}
-use Rattle.np_model.specs.declared.rows.Row.TheVariants.{A6}
 use Rattle.np_model.specs.Network.Flows.{Network}
 use Rattle.np_model.specs.Basis.Pieces.{PieceLists, nodes_in, basics_in, marked_in, beside}
 use Rattle.np_model.specs.Basis.Sound.{AreInOrder}
 use Rattle.piece_lists.specs.Flowing.{AreFlowsAfter}
 use Rattle.piece_lists.specs.Joining.{all_nodes, AreMarksAfter}
-use Rattle.piece_lists.specs.declared.flowing.FlowRefusal.{FlowRefusal}
-use Rattle.piece_lists.specs.declared.flowing.FlowRefusal.TheVariants as flow
+use Rattle.piece_lists.specs.declared.refusal.MoveRefusal.{MoveRefusal}
+use Rattle.piece_lists.specs.declared.refusal.MoveRefusal.TheVariants as refusal
 use Rattle.tree_potentials.specs.declared.refusal.PotentialRefusal.{PotentialRefusal}
 use Rattle.tree_potentials.specs.declared.refusal.PotentialRefusal.TheVariants as potential
 use Rattle.tree_potentials.specs.Answers.{GivesPast}
 use Rattle.pivot_step.specs.After.{HasRightPotentials, AreListsAfter, ArePiecesOver}
-use Rattle.pivot_step.specs.declared.refusal.Refusal.{Refusal}
-use Rattle.pivot_step.specs.declared.refusal.Refusal.TheVariants as refusal
 
 -- ---- refusals
 
 -- where it is an overflow, it has this cause
-abbrev pub OnPast : (Overflow → Type 0) → Refusal → Type 0
+abbrev pub OnPast : (Overflow → Type 0) → MoveRefusal → Type 0
 OnPast P (refusal.Past overflow) = P overflow
 OnPast P refusal.Memory = ⊤
 
-abbrev pub of_flows : FlowRefusal → ℕ → Refusal
-of_flows (flow.Past past) arc = refusal.Past (record { row = A6; place = Arc arc; past = past })
-of_flows flow.Memory arc = refusal.Memory
-
-abbrev pub of_potentials : PotentialRefusal → ℕ → Refusal
+abbrev pub of_potentials : PotentialRefusal → ℕ → MoveRefusal
 of_potentials (potential.Past overflow) arc = refusal.Past (record { row = overflow.row; place = Arc arc; past = overflow.past })
 of_potentials potential.Memory arc = refusal.Memory
 

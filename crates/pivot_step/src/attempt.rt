@@ -14,7 +14,7 @@ ghost use Rattle.pivot_step.specs.Overflows.{AreReady};
 
 use crate::change::Change;
 use crate::following::follow;
-use crate::testing::{Tested, test};
+use crate::testing::test;
 use np_frac::Frac;
 use np_model::{FullNet, Mark, Phase, Prepared};
 use quasi_tree::Quasi;
@@ -98,10 +98,12 @@ pub fn prepare(
     ensures { IsPrepared (phase_net phase full.now) (real_arcs full.now) (lists_of (λ s. s.lists) first.now.lists (option_copied second.entry)) arc lists_in result }
 {
     match test(full, phase, first, second, arc) {
-        Tested::Past(overflow) => Prepared::Past(overflow),
-        Tested::NotEligible => Prepared::NotEligible,
-        Tested::Eligible { mark, flow } => {
-            aim(alloc, full, phase, first, second, arc, mark, flow)
+        Err(overflow) => Prepared::Past(overflow),
+        Ok(None) => Prepared::NotEligible,
+        Ok(Some(found)) => {
+            aim(
+                alloc, full, phase, first, second, arc, found.mark, found.flow,
+            )
         }
     }
 }

@@ -14,9 +14,9 @@ ghost use Rattle.np_model.specs.Basis.Needed.{lists_of};
 
 use crate::change::Change;
 use crate::exchange::pieces_after;
-use crate::refusal::Refusal;
 use np_frac::Frac;
 use np_model::{Direction, Entry, FullNet, Mark, Phase, Prepared};
+use piece_lists::MoveRefusal;
 use quasi_tree::Quasi;
 use ratio_test::{RatioAnswer, ratio};
 use std::alloc::Global;
@@ -50,8 +50,8 @@ fn moved(
             entry,
             change: Change { pieces },
         },
-        Err(Refusal::Past(overflow)) => Prepared::Past(overflow),
-        Err(Refusal::Memory) => Prepared::Memory,
+        Err(MoveRefusal::Past(overflow)) => Prepared::Past(overflow),
+        Err(MoveRefusal::Memory) => Prepared::Memory,
     }
 }
 

@@ -7,7 +7,6 @@ mod exchange;
 mod following;
 pub mod laws;
 mod pivoter;
-mod refusal;
 mod settling;
 mod testing;
 

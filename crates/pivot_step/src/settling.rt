@@ -7,13 +7,13 @@ ghost use Rattle.np_model.specs.Basis.Pieces.{PieceLists};
 ghost use Rattle.np_model.specs.Basis.Sound.{IsInNet};
 ghost use Rattle.quasi_tree.specs.Store.{IsHeld};
 ghost use Rattle.piece_lists.specs.Parts.{lists_in};
-ghost use Rattle.pivot_step.specs.Steps.{OnPast, IsSettled, AreSettled, GivesAt, OneGivesAt};
+ghost use Rattle.pivot_step.specs.Steps.{OnPast, IsSettled, AreSettled, GivesAt, OneGivesAt, of_potentials};
 
-use crate::refusal::{Refusal, of_potentials};
-use np_model::{FullNet, Hands, Phase};
+use np_model::{FullNet, Hands, Overflow, Phase, Place};
+use piece_lists::MoveRefusal;
 use quasi_tree::{Lists, Quasi};
 use std::alloc::Global;
-use tree_potentials::potentials;
+use tree_potentials::{PotentialRefusal, potentials};
 
 // The pieces with these lists.
 pub(crate) fn held(pieces: Hands<Lists>) -> Hands<Quasi>
@@ -26,6 +26,20 @@ pub(crate) fn held(pieces: Hands<Lists>) -> Hands<Quasi>
     }
 }
 
+// A refusal of new potentials, told at the arc that enters.
+fn of_potentials(refusal: PotentialRefusal, arc: u32) -> MoveRefusal
+    ensures { result ≡ of_potentials refusal arc }
+{
+    match refusal {
+        PotentialRefusal::Past(overflow) => MoveRefusal::Past(Overflow {
+            row: overflow.row,
+            place: Place::Arc(arc),
+            past: overflow.past,
+        }),
+        PotentialRefusal::Memory => MoveRefusal::Memory,
+    }
+}
+
 // A piece with its potentials; an overflow is told at the arc that enters.
 pub(crate) fn settled_piece(
     alloc: Global,
@@ -33,7 +47,7 @@ pub(crate) fn settled_piece(
     phase: Phase,
     arc: u32,
     piece: Quasi,
-) -> Result<Quasi, Refusal>
+) -> Result<Quasi, MoveRefusal>
     requires { IsInNet (phase_net phase full.now) piece.lists }
     ensures { MatchResult result (λ new. IsSettled (phase_net phase full.now) piece.lists new.lists) (OnPast (GivesAt (phase_net phase full.now) piece.lists arc)) }
 {
@@ -51,7 +65,7 @@ pub(crate) fn settled(
     phase: Phase,
     arc: u32,
     pieces: Hands<Quasi>,
-) -> Result<Hands<Quasi>, Refusal>
+) -> Result<Hands<Quasi>, MoveRefusal>
     requires { (p : PieceLists) → IsIn p (lists_in pieces) → IsInNet (phase_net phase full.now) p }
     ensures { MatchResult result (λ new. AreSettled (phase_net phase full.now) (lists_in pieces) (lists_in new)) (OnPast (OneGivesAt (phase_net phase full.now) (lists_in pieces) arc)) }
 {

@@ -1,14 +1,15 @@
 //! Whether an arc may enter.
 
-ghost use Rattle.std.specs.Prelude.{◌≡◌, ◌<◌, ◌⊎◌};
+ghost use Rattle.std.specs.Prelude.{◌≡◌, ◌<◌, ◌⊎◌, Err, MatchResult};
 ghost use Rattle.std.specs.Option.{option_copied};
 ghost use Rattle.gain_graphs.specs.Arcs.{IsIn};
 ghost use Rattle.np_frac.specs.Ratio.{zero_ratio};
 ghost use Rattle.np_model.specs.Basis.Graphs.{arc_at, ends_at};
 ghost use Rattle.np_model.specs.Basis.Phases.{phase_net, real_arcs, all_arcs};
 ghost use Rattle.np_model.specs.Basis.Pieces.{beside, nodes_of};
-ghost use Rattle.np_model.specs.Basis.Sound.{bound_at, AreSound};
+ghost use Rattle.np_model.specs.Basis.Sound.{bound_at, values_in, AreSound};
 ghost use Rattle.np_model.specs.Basis.Needed.{AreNeededFor, lists_of};
+ghost use Rattle.np_model.specs.Rows.Prices.{price_of};
 ghost use Rattle.piece_lists.specs.Joining.{all_nodes};
 ghost use Rattle.pivot_step.specs.Asked.{IsTested};
 
@@ -17,12 +18,11 @@ use np_frac::Frac;
 use np_model::{FullNet, Mark, Overflow, Phase, Piece, Upper};
 use quasi_tree::Quasi;
 
-/// Whether an arc may enter, with its mark and its flow; or the overflow of its price.
+// The bound at which an arc stands, and its flow there.
 #[derive(Clone, Copy)]
-pub(crate) enum Tested {
-    Eligible { mark: Mark, flow: Frac },
-    NotEligible,
-    Past(Overflow),
+pub(crate) struct Standing {
+    pub(crate) mark: Mark,
+    pub(crate) flow: Frac,
 }
 
 // The potential of a node of the pieces.
@@ -54,32 +54,32 @@ pub fn flow_at(full: &FullNet, phase: Phase, arc: u32, mark: Mark) -> Frac
     }
 }
 
-// Tests whether an arc may enter, by its price and its mark.
+// Tests whether an arc may enter, by its price and its mark: where it stands, if it may; or the overflow of its price.
 pub(crate) fn test(
     full: &FullNet,
     phase: Phase,
     first: &Quasi,
     second: Option<&Quasi>,
     arc: u32,
-) -> Tested
+) -> Result<Option<Standing>, Overflow>
     requires is_arc { arc < all_arcs full.now }
     requires sound { AreSound (phase_net phase full.now) (lists_of (λ s. s.lists) first.now.lists (option_copied second)) }
     requires needed { AreNeededFor (lists_of (λ s. s.lists) first.now.lists (option_copied second)) (ends_at (phase_net phase full.now).arcs arc) }
-    ensures { IsTested (phase_net phase full.now) (real_arcs full.now) (lists_of (λ s. s.lists) first.now.lists (option_copied second.entry)) arc result }
+    ensures { MatchResult result (IsTested (phase_net phase full.now) (real_arcs full.now) (lists_of (λ s. s.lists) first.now.lists (option_copied second.entry)) arc) (λ overflow. price_of (phase_net phase full.now) (values_in (phase_net phase full.now) (lists_of (λ s. s.lists) first.now.lists (option_copied second.entry))).potential arc ≡ Err overflow) }
 {
     let ends = &full.ends(arc);
     let tail = potential_in(first, second, ends.tail());
     let head = potential_in(first, second, ends.head());
     let reduced = match price(full, phase, arc, tail, head) {
         Ok(reduced) => reduced,
-        Err(overflow) => return Tested::Past(overflow),
+        Err(overflow) => return Err(overflow),
     };
     let mark = first.mark_of(arc);
     if !eligible(full, arc, mark, reduced) {
-        return Tested::NotEligible;
+        return Ok(None);
     }
-    Tested::Eligible {
+    Ok(Some(Standing {
         mark,
         flow: flow_at(full, phase, arc, mark),
-    }
+    }))
 }

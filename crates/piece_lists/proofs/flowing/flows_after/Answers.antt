@@ -17,8 +17,8 @@ moved-requires-clause-own c = λ a i. subst (λ x. IsIn a (numbers_of_arcs x)) (
 
 pub returns-in-Err : goal.returns-in-Err
 returns-in-Err c =
-    first_past c.args.basics.now c.in_ok-all.all.items c.args.entering c.in_ok-all.ensures c.args.steps.now c.args.step c.in-Err.refusal
-    (subst (λ x. IsFirstPast x c.args.steps.now c.args.step c.in-Err.refusal) c.as_slice.ensures.value c.in-Err.ensures)
+    first_past c.args.basics.now c.in_ok-all.all.items c.args.entering c.in_ok-all.ensures c.args.entering.0 c.args.steps.now c.args.step c.in-Err.refusal
+    (subst (λ x. IsFirstPast x c.args.entering.0 c.args.steps.now c.args.step c.in-Err.refusal) c.as_slice.ensures.value c.in-Err.ensures)
 
 pub returns : goal.returns
 returns c =

@@ -17,9 +17,12 @@ loop-arc-preserved-in_default c =
     c.loop-arc.list.items c.loop-arc-test.true c.arc-item.is c.loop-arc.invariant c.in_default.ensures (subst (λ (x : ℕ × Ends × Ratio). Fits x.2) c.kept.ensures.same c.kept.ensures.fits))
 
 pub returns-in-Err : goal.returns-in-Err
-returns-in-Err c =
-    overflows c.args.arcs.now c.args.steps.now c.args.step (ascends (numbers_of_arcs c.args.arcs.now) c.requires.arcs_ascend) (ascends (numbers_of_steps c.args.steps.now) c.requires.steps_ascend) c.loop-arc.arc-index c.loop-arc.next c.arc-item.result
-    c.loop-arc.list.items c.loop-arc-test.true c.arc-item.is c.loop-arc.invariant (c.arc-item.result.0, c.in-Some.amount) c.in-Some.ensures.0 c.in-Some.ensures.1 refl c.in-Err.past (sym c.in-Err.ensures.row)
+returns-in-Err c = (
+  refl,
+  refl,
+  overflows c.args.arcs.now c.args.steps.now c.args.step (ascends (numbers_of_arcs c.args.arcs.now) c.requires.arcs_ascend) (ascends (numbers_of_steps c.args.steps.now) c.requires.steps_ascend) c.loop-arc.arc-index c.loop-arc.next c.arc-item.result
+      c.loop-arc.list.items c.loop-arc-test.true c.arc-item.is c.loop-arc.invariant (c.arc-item.result.0, c.in-Some.amount) c.in-Some.ensures.0 c.in-Some.ensures.1 refl c.in-Err.past (sym c.in-Err.ensures.row),
+)
 
 pub loop-arc-preserved : goal.loop-arc-preserved
 loop-arc-preserved c =
