@@ -1,16 +1,20 @@
 -- The answers of an attempt exclude each other.
-use Rattle.std.specs.Prelude.{◌≡◌, ℕ, List, [], ◌∷◌, length, Err}
+use Rattle.std.specs.Prelude.{◌≡◌, ◌↔◌, ℕ, List, [], ◌∷◌, length, Result, Err}
 use Rattle.std.specs.Result.{IsOk}
-use Rattle.std.proofs.Common.{sym, ap, ap₂, subst, ◌∙◌, inl, inr, arith}
+use Rattle.std.proofs.Common.{refl, sym, ap, ap₂, subst, ◌∙◌, inl, inr, arith}
 use Rattle.gain_graphs.specs.Arcs.{IsIn}
 use Rattle.gain_graphs.proofs.Lists.{in_map, in_map_of, decide_in}
 use Rattle.np_frac.specs.Ratio.{Ratio, zero_ratio}
 use Rattle.np_model.specs.declared.log.Entry.{Entry}
 use Rattle.np_model.specs.declared.log.Mark.TheVariants.{Lower}
 use Rattle.np_model.specs.declared.piece.Direction.{Direction}
+use Rattle.np_frac.specs.declared.frac.Past.{Past}
 use Rattle.np_model.specs.declared.rows.Overflow.{Overflow}
+use Rattle.np_model.specs.declared.rows.Place.{Place}
+use Rattle.np_model.specs.declared.rows.Place.TheVariants.{Arc}
+use Rattle.np_model.specs.declared.rows.Row.{Row}
 use Rattle.np_model.specs.Network.Flows.{Network}
-use Rattle.np_model.specs.Basis.Attempts.{PriceFits, HasDirection, DirectionOverflows, IsFollowed, IsPivoted, IsRay, FirstOverflow, of_price, of_direction, of_ratio, of_move, MoveOverflows, PotentialsOverflow, FlowsFit}
+use Rattle.np_model.specs.Basis.Attempts.{PriceFits, HasDirection, DirectionOverflows, IsFollowed, IsPivoted, IsRay, IsAimed, FirstOverflow, of_price, of_direction, of_ratio, of_move, MoveOverflows, LimitsOverflow, FlowsOverflow, PotentialsOverflow, FlowsFit}
 use Rattle.np_model.specs.Basis.Graphs.{ends_at, cost_at}
 use Rattle.np_model.specs.Basis.Moves.{Stops, IsEligible}
 use Rattle.np_model.specs.Basis.Needed.{AreNeededFor, IsDirectionOf}
@@ -35,7 +39,7 @@ use Rattle.np_basis.proofs.Trees.{potentials_are_unique}
 use Rattle.np_frac.proofs.Results.{err_not_ok}
 use Rattle.tree_potentials.proofs.Settings.{clash}
 use Rattle.tree_flows.proofs.Apart as apart
-use Rattle.pivot_step.specs.Laws.{IsRefused, AnswersExclude, NoRayInStageOne}
+use Rattle.pivot_step.specs.Laws.{AttemptStep, pricing, directing, limiting, moving, settling, TellsFirst, OverflowsAt, IsRefused, AnswersExclude, NoRayInStageOne}
 use Rattle.pivot_step.proofs.Assembled as assembling
 use Rattle.pivot_step.proofs.Entries.{same_entries}
 use Rattle.pivot_step.proofs.Flipping.{same_part}
@@ -162,6 +166,84 @@ module _ (net : Network) (real : ℕ) (ground : HasRealArcs net real) (ps : List
       let one = one_move f.aimed.eligible d r.direction x y t r.step f r.followed in
       moved d r.direction x y t r.step after o (one_direction f.aimed.eligible d r.direction f.aimed.has_direction r.followed.aimed.has_direction) one.0 one.1 g r.is_after r.flows_fit f.aimed.eligible
 
+  -- ---- the steps
+
+  of_a_step : (o : Overflow) → FirstOverflow net real ps arc o ↔ ((step : AttemptStep) × OverflowsAt net real ps arc step o)
+  of_a_step o = (to, (λ r. from r.0 r.1))
+    where
+      to : FirstOverflow net real ps arc o → (step : AttemptStep) × OverflowsAt net real ps arc step o
+      to (of_price e) = (pricing, e)
+      to (of_direction fits eligible g) = (directing, (fits, eligible, g))
+      to (of_ratio d aimed g) = (limiting, (d, aimed, g))
+      to (of_move d entry t f (inl g)) = (moving, (d, entry, t, f, g))
+      to (of_move d entry t f (inr g)) = (settling, (d, entry, t, f, g.0, g.1))
+
+      from : (step : AttemptStep) → OverflowsAt net real ps arc step o → FirstOverflow net real ps arc o
+      from pricing h = of_price h
+      from directing h = of_direction h.0 h.1 h.2
+      from limiting h = of_ratio h.0 h.1 h.2
+      from moving h = of_move h.0 h.1 h.2 h.3 (inl h.4)
+      from settling h = of_move h.0 h.1 h.2 h.3 (inr (h.4, h.5))
+
+  same_flows : (d e : Direction) (x y : Entry) (t u : Ratio) → IsFollowed net real ps arc d x t → IsFollowed net real ps arc e y u
+      → new_flows d.steps t (values_in net ps).flow ≡ new_flows e.steps u (values_in net ps).flow
+  same_flows d e x y t u f g =
+      ap₂ (λ (z : Direction) (w : Ratio). new_flows z.steps w (values_in net ps).flow) (one_direction f.aimed.eligible d e f.aimed.has_direction g.aimed.has_direction) (one_move f.aimed.eligible d e x y t u f g).1
+
+  limits_apart : (d e : Direction) (o : Overflow) (x : Entry) (t : Ratio) → IsAimed net real ps arc d → LimitsOverflow net ps d o → IsFollowed net real ps arc e x t → ⊥
+  limits_apart d e o x t aimed g f = limits d e o (one_direction aimed.eligible d e aimed.has_direction f.aimed.has_direction) g.past f.limits_fit
+
+  flows_apart : (d e : Direction) (x y : Entry) (t u : Ratio) (o : Overflow) → IsFollowed net real ps arc d x t → FlowsOverflow net ps x.enter d.steps t o → IsFollowed net real ps arc e y u → FlowsFit net ps e.steps u → ⊥
+  flows_apart d e x y t u o f g h fit = err_not_ok (new_flows e.steps u (values_in net ps).flow) o.past (sym (same_flows d e x y t u f h) ∙ g.past) fit
+
+  one_step : (step same : AttemptStep) (o p : Overflow) → OverflowsAt net real ps arc step o → OverflowsAt net real ps arc same p → step ≡ same
+  one_step pricing pricing o p h k = refl
+  one_step pricing directing o p h k = absurd (not_priced o h k.0)
+  one_step pricing limiting o p h k = absurd (not_priced o h k.1.price_fits)
+  one_step pricing moving o p h k = absurd (not_priced o h k.3.aimed.price_fits)
+  one_step pricing settling o p h k = absurd (not_priced o h k.3.aimed.price_fits)
+  one_step directing pricing o p h k = absurd (not_priced p k h.0)
+  one_step directing directing o p h k = refl
+  one_step directing limiting o p h k = absurd (not_overflows h.1 k.0 o k.1.has_direction h.2)
+  one_step directing moving o p h k = absurd (not_overflows h.1 k.0 o k.3.aimed.has_direction h.2)
+  one_step directing settling o p h k = absurd (not_overflows h.1 k.0 o k.3.aimed.has_direction h.2)
+  one_step limiting pricing o p h k = absurd (not_priced p k h.1.price_fits)
+  one_step limiting directing o p h k = absurd (not_overflows k.1 h.0 p h.1.has_direction k.2)
+  one_step limiting limiting o p h k = refl
+  one_step limiting moving o p h k = absurd (limits_apart h.0 k.0 o k.1 k.2 h.1 h.2 k.3)
+  one_step limiting settling o p h k = absurd (limits_apart h.0 k.0 o k.1 k.2 h.1 h.2 k.3)
+  one_step moving pricing o p h k = absurd (not_priced p k h.3.aimed.price_fits)
+  one_step moving directing o p h k = absurd (not_overflows k.1 h.0 p h.3.aimed.has_direction k.2)
+  one_step moving limiting o p h k = absurd (limits_apart k.0 h.0 p h.1 h.2 k.1 k.2 h.3)
+  one_step moving moving o p h k = refl
+  one_step moving settling o p h k = absurd (flows_apart h.0 k.0 h.1 k.1 h.2 k.2 o h.3 h.4 k.3 k.4)
+  one_step settling pricing o p h k = absurd (not_priced p k h.3.aimed.price_fits)
+  one_step settling directing o p h k = absurd (not_overflows k.1 h.0 p h.3.aimed.has_direction k.2)
+  one_step settling limiting o p h k = absurd (limits_apart k.0 h.0 p h.1 h.2 k.1 k.2 h.3)
+  one_step settling moving o p h k = absurd (flows_apart k.0 h.0 k.1 h.1 k.2 h.2 p k.3 k.4 h.3 h.4)
+  one_step settling settling o p h k = refl
+
+  same_overflow : (o p : Overflow) → o.row ≡ p.row → o.place ≡ p.place → o.past ≡ p.past → o ≡ p
+  same_overflow o p e f g =
+      ap (λ (x : Row). let z : Overflow = record { row = x; place = o.place; past = o.past } in z) e
+      ∙ ap (λ (x : Place). let z : Overflow = record { row = p.row; place = x; past = o.past } in z) f
+      ∙ ap (λ (x : Past). let z : Overflow = record { row = p.row; place = p.place; past = x } in z) g
+
+  same_past : {A B : Type 0} (r s : Result A B) (x y : B) → r ≡ s → r ≡ Err x → s ≡ Err y → x ≡ y
+  same_past r s x y e f g = cc
+
+  one_operation : (step : AttemptStep) (o p : Overflow) → TellsFirst step → OverflowsAt net real ps arc step o → OverflowsAt net real ps arc step p → o ≡ p
+  one_operation pricing o p first h k = same_past (price_of net (values_in net ps).potential arc) (price_of net (values_in net ps).potential arc) o p refl h k
+  one_operation directing o p first h k = absurd first
+  one_operation limiting o p first h k =
+      let same = one_direction h.1.eligible h.0 k.0 h.1.has_direction k.1.has_direction in
+      same_overflow o p (h.2.row ∙ sym k.2.row) (h.2.place ∙ ap (λ (d : Direction). Arc d.enter) same ∙ sym k.2.place)
+      (same_past (limits_of net (values_in net ps).flow h.0.steps) (limits_of net (values_in net ps).flow k.0.steps) o.past p.past (ap (λ (d : Direction). limits_of net (values_in net ps).flow d.steps) same) h.2.past k.2.past)
+  one_operation moving o p first h k =
+      same_overflow o p (h.4.row ∙ sym k.4.row) (h.4.place ∙ ap Arc (h.3.enters ∙ sym k.3.enters) ∙ sym k.4.place)
+      (same_past (new_flows h.0.steps h.2 (values_in net ps).flow) (new_flows k.0.steps k.2 (values_in net ps).flow) o.past p.past (same_flows h.0 k.0 h.1 k.1 h.2 k.2 h.3 k.3) h.4.past k.4.past)
+  one_operation settling o p first h k = absurd first
+
 pub answers_exclude : AnswersExclude
 answers_exclude net real ps arc ground sound needed = record {
   overflow_or_refusal = refusal net real ground ps sound arc needed;
@@ -174,6 +256,9 @@ answers_exclude net real ps arc ground sound needed = record {
   one_pivot = λ x y after others r h.
       let one = one_move net real ground ps sound arc needed r.followed.aimed.eligible r.direction h.direction x y r.step h.step r.followed h.followed in
       (one.0, once.one_after net real ground ps y after others (subst (λ (z : Entry). IsAfter net real ps z after) one.0 r.is_after) h.is_after);
+  of_a_step = of_a_step net real ground ps sound arc needed;
+  one_step = one_step net real ground ps sound arc needed;
+  one_operation = one_operation net real ground ps sound arc needed;
 }
 
 pub no_ray_in_stage_one : NoRayInStageOne
