@@ -37,7 +37,8 @@ use Rattle.np_basis.proofs.Sound.{alone_apart}
 use Rattle.quasi_tree.specs.Store.{Store}
 use Rattle.piece_lists.specs.Parts.{lists_in}
 use Rattle.simplex_driver.specs.declared.forest.Forest.{Forest}
-use Rattle.simplex_driver.specs.Store.{state_of, slot_at, home_at, homes_needed, HasHome, HaveHomes, LiesWithin, Holds, IsKept, written, filled, emptied, lists_all, stores_in, homes_of, potentials_of, flows_written}
+use Rattle.simplex_driver.specs.Homes.{home_at, homes_needed, AreHomes, HasHome, HaveHomes}
+use Rattle.simplex_driver.specs.Store.{state_of, slot_at, IsInSlot, LiesWithin, Holds, IsKept, written, filled, emptied, lists_all, stores_in, potentials_of, flows_written}
 use Rattle.simplex_driver.specs.Picks.{CanPivot}
 use Rattle.simplex_driver.proofs.Stepped as steps
 use Rattle.simplex_driver.proofs.Stepped.{some_one, slot_below, has_least}
@@ -97,12 +98,12 @@ in_lists p hands change e i = subst (IsIn p) (held_lists hands ∙ ap lists_in e
 
 -- ---- the writes of a pivot, one behind the other
 
-pub slots_made : (net : Network) (f a b g : Forest) (entry : Entry) (e : Ends) (hands change : Hands Store) → e ≡ ends_at net.arcs entry.enter → hands ≡ change
-    → a.slots.items ≡ written (emptied (homes_needed f.homes.items e)) f.slots.items → b.slots.items ≡ written (filled (stores_in hands)) a.slots.items → g.slots.items ≡ b.slots.items
-    → g.slots.items ≡ written (filled (stores_in change)) (written (emptied (homes_needed f.homes.items (ends_at net.arcs entry.enter))) f.slots.items)
-slots_made net f a b g entry e hands change is same one two three =
-    three ∙ two ∙ ap (written (filled (stores_in hands))) one ∙ ap (λ h. written (filled (stores_in h)) (written (emptied (homes_needed f.homes.items e)) f.slots.items)) same
-    ∙ ap (λ t. written (filled (stores_in change)) (written (emptied (homes_needed f.homes.items t)) f.slots.items)) is
+pub slots_made : (net : Network) (homes : List ℕ) (f a b g : Forest) (entry : Entry) (e : Ends) (hands change : Hands Store) → e ≡ ends_at net.arcs entry.enter → hands ≡ change
+    → a.slots.items ≡ written (emptied (homes_needed homes e)) f.slots.items → b.slots.items ≡ written (filled (stores_in hands)) a.slots.items → g.slots.items ≡ b.slots.items
+    → g.slots.items ≡ written (filled (stores_in change)) (written (emptied (homes_needed homes (ends_at net.arcs entry.enter))) f.slots.items)
+slots_made net homes f a b g entry e hands change is same one two three =
+    three ∙ two ∙ ap (written (filled (stores_in hands))) one ∙ ap (λ h. written (filled (stores_in h)) (written (emptied (homes_needed homes e)) f.slots.items)) same
+    ∙ ap (λ t. written (filled (stores_in change)) (written (emptied (homes_needed homes t)) f.slots.items)) is
 
 pub table_made : {A : Type 0} (of : PieceLists → List (ℕ × A)) (hands change : Hands Store) → hands ≡ change → (f a b : List A) → a ≡ f
     → b ≡ written (flat_map of (lists_held (λ (s : Store). s.lists) hands)) a → b ≡ written (flat_map of (lists_in change)) f
@@ -127,13 +128,16 @@ same_home homes u v same e h = grind (arith, e, h)
 pub other_home : (homes : List ℕ) (u v : ℕ) (same : Bool) → same ≡ (home_at homes u == home_at homes v) → same ≡ false → home_at homes u ≢ home_at homes v
 other_home homes u v same e h = grind (arith, e, h)
 
-module _ (net : Network) (real : ℕ) (grounded : HasRealArcs net real) (f : Forest) (st : IsState net (state_of f)) (kept : IsKept net f) where
-  pub has_home : (v : ℕ) → v < length net.supply → HasHome f.slots.items f.homes.items v
-  has_home v l =
-      let r = kept.at_home v l in
-      record { node = omega (arith, l, kept.home_each); slot = slot_below f.slots.items (home_at f.homes.items v) r.0 r.1; piece = r.0; there = r.1 }
+module _ (net : Network) (real : ℕ) (grounded : HasRealArcs net real) (f : Forest) (st : IsState net (state_of f)) (kept : IsKept net f) (homes : List ℕ) (are : AreHomes f.slots.items homes) where
+  at_home : (v : ℕ) → v < length net.supply → IsInSlot f.slots.items (home_at homes v) v
+  at_home v l = are.at_home v (omega (arith, l, kept.slot_each))
 
-  pub have_homes : (e : Ends) → AreNodes (length net.supply) e → HaveHomes f.slots.items f.homes.items e
+  pub has_home : (v : ℕ) → v < length net.supply → HasHome f.slots.items homes v
+  has_home v l =
+      let r = at_home v l in
+      record { node = omega (arith, l, are.home_each, kept.slot_each); slot = slot_below f.slots.items (home_at homes v) r.0 r.1; piece = r.0; there = r.1 }
+
+  pub have_homes : (e : Ends) → AreNodes (length net.supply) e → HaveHomes f.slots.items homes e
   have_homes (Link i j g) h = (has_home i h.0, has_home j h.1)
   have_homes (Drain v) h = has_home v h
   have_homes (Feed v) h = has_home v h
@@ -143,17 +147,17 @@ module _ (net : Network) (real : ℕ) (grounded : HasRealArcs net real) (f : For
   joins a e l is = subst (AreNodes (length net.supply)) (sym is) (grounded.sound a _ l).joins
 
   abbrev IsHome : ℕ → Store → Type 0
-  IsHome v p = Some p ≡ slot_at f.slots.items (home_at f.homes.items v)
+  IsHome v p = Some p ≡ slot_at f.slots.items (home_at homes v)
 
   -- the piece at the home of a node has the node
   node_in : (v : ℕ) (p : Store) → v < length net.supply → IsHome v p → IsIn v (nodes_in p.lists)
-  node_in v p l e = let r = kept.at_home v l in subst (λ (x : Store). IsIn v (nodes_in x.lists)) (sym (some_one p r.0 (e ∙ r.1))) r.2
+  node_in v p l e = let r = at_home v l in subst (λ (x : Store). IsIn v (nodes_in x.lists)) (sym (some_one p r.0 (e ∙ r.1))) r.2
 
   is_piece : (v : ℕ) (p : Store) → IsHome v p → IsPieceOf net (values_of (state_of f)) p.lists
-  is_piece v p e = (kept.pieces (home_at f.homes.items v) p (sym e)).0
+  is_piece v p e = (kept.pieces (home_at homes v) p (sym e)).0
 
-  home_is : (v : ℕ) (p : Store) → IsHome v p → least_node p.lists ≡ home_at f.homes.items v
-  home_is v p e = (kept.pieces (home_at f.homes.items v) p (sym e)).1
+  home_is : (v : ℕ) (p : Store) → IsHome v p → least_node p.lists ≡ home_at homes v
+  home_is v p e = (kept.pieces (home_at homes v) p (sym e)).1
 
   -- ---- the pieces of an arc with one end, of a link within a piece, and of a link between two
 
@@ -163,7 +167,7 @@ module _ (net : Network) (real : ℕ) (grounded : HasRealArcs net real) (f : For
   pub single : (v : ℕ) (p : Store) → IsHome v p → ArePiecesOf net (values_of (state_of f)) (p.lists ∷ [])
   single v p e = one_piece net (values_of (state_of f)) p.lists (is_piece v p e)
 
-  pub double : (u v : ℕ) (p q : Store) → home_at f.homes.items u ≢ home_at f.homes.items v → IsHome u p → IsHome v q → ArePiecesOf net (values_of (state_of f)) (p.lists ∷ q.lists ∷ [])
+  pub double : (u v : ℕ) (p q : Store) → home_at homes u ≢ home_at homes v → IsHome u p → IsHome v q → ArePiecesOf net (values_of (state_of f)) (p.lists ∷ q.lists ∷ [])
   double u v p q n e k = two_pieces net (values_of (state_of f)) p.lists q.lists (is_piece u p e) (is_piece v q k) (λ w i j.
       n (sym (home_is u p e) ∙ ap least_node (piece_is_unique net (values_of (state_of f)) p.lists q.lists w (is_piece u p e) (is_piece v q k) i j) ∙ home_is v q k))
 
@@ -179,7 +183,7 @@ module _ (net : Network) (real : ℕ) (grounded : HasRealArcs net real) (f : For
   pub needs_feed : (a v : ℕ) (p : Store) (e : Ends) → a < length net.arcs → e ≡ ends_at net.arcs a → e ≡ Feed v → IsHome v p → AreNeededFor (p.lists ∷ []) (ends_at net.arcs a)
   needs_feed a v p e l is k h = subst (AreNeededFor (p.lists ∷ [])) (sym k ∙ is) (in_one v p (valid a (Feed v) l (sym k ∙ is)) h)
 
-  pub needs_same : (a u v : ℕ) (g : Ratio) (p : Store) (e : Ends) → a < length net.arcs → e ≡ ends_at net.arcs a → e ≡ Link u v g → home_at f.homes.items u ≡ home_at f.homes.items v → IsHome u p
+  pub needs_same : (a u v : ℕ) (g : Ratio) (p : Store) (e : Ends) → a < length net.arcs → e ≡ ends_at net.arcs a → e ≡ Link u v g → home_at homes u ≡ home_at homes v → IsHome u p
       → AreNeededFor (p.lists ∷ []) (ends_at net.arcs a)
   needs_same a u v g p e l is k same h =
       let n = valid a (Link u v g) l (sym k ∙ is) in
@@ -194,15 +198,15 @@ module _ (net : Network) (real : ℕ) (grounded : HasRealArcs net real) (f : For
   -- ---- the slots that are emptied are those of these pieces
 
   least_home : (v : ℕ) (ps : List PieceLists) (p : PieceLists) → v < length net.supply → ArePiecesOf net (values_of (state_of f)) ps → IsIn p ps → IsIn v (nodes_in p)
-      → least_node p ≡ home_at f.homes.items v
+      → least_node p ≡ home_at homes v
   least_home v ps p l h i j =
-      let r = kept.at_home v l in
-      ap least_node (piece_is_unique net (values_of (state_of f)) p r.0.lists v (h.each p i) (kept.pieces (home_at f.homes.items v) r.0 r.1).0 j r.2)
-      ∙ (kept.pieces (home_at f.homes.items v) r.0 r.1).1
+      let r = at_home v l in
+      ap least_node (piece_is_unique net (values_of (state_of f)) p r.0.lists v (h.each p i) (kept.pieces (home_at homes v) r.0 r.1).0 j r.2)
+      ∙ (kept.pieces (home_at homes v) r.0 r.1).1
 
   -- an end of an arc that the piece has
   abbrev HasEnd : PieceLists → Ends → Type 0
-  HasEnd p e = (u : ℕ) × IsIn u (nodes_in p) × (u < length net.supply) × IsIn (home_at f.homes.items u) (homes_needed f.homes.items e)
+  HasEnd p e = (u : ℕ) × IsIn u (nodes_in p) × (u < length net.supply) × IsIn (home_at homes u) (homes_needed homes e)
 
   has_end : (ps : List PieceLists) (p : PieceLists) (e : Ends) → AreNodes (length net.supply) e → AreNeededFor ps e → IsIn p ps → HasEnd p e
   has_end [] p e l n i = absurd n
@@ -223,13 +227,13 @@ module _ (net : Network) (real : ℕ) (grounded : HasRealArcs net real) (f : For
 
   -- a home of an end is the least node of the piece that has it
   home_of_end : (ps : List PieceLists) (u : ℕ) → u < length net.supply → ArePiecesOf net (values_of (state_of f)) ps → IsIn u (nodes_of ps)
-      → IsIn (home_at f.homes.items u) (map least_node ps)
+      → IsIn (home_at homes u) (map least_node ps)
   home_of_end ps u l h i =
       let r = in_flat_of nodes_in ps u i in
       subst (λ t. IsIn t (map least_node ps)) (least_home u ps r.0 l h r.1 r.2) (in_map least_node r.0 ps r.1)
 
   home_needed : (ps : List PieceLists) (e : Ends) (w : ℕ) → AreNodes (length net.supply) e → ArePiecesOf net (values_of (state_of f)) ps → HoldEnds ps e
-      → IsIn w (homes_needed f.homes.items e) → IsIn w (map least_node ps)
+      → IsIn w (homes_needed homes e) → IsIn w (map least_node ps)
   home_needed ps (Link u v g) w l h n i = elim i [
     | inl k ↦ subst (λ t. IsIn t (map least_node ps)) (sym k) (home_of_end ps u l.0 h n.0)
     | inr j ↦ elim j [ inl k ↦ subst (λ t. IsIn t (map least_node ps)) (sym k) (home_of_end ps v l.1 h n.1) | inr m ↦ absurd m ]
@@ -238,13 +242,13 @@ module _ (net : Network) (real : ℕ) (grounded : HasRealArcs net real) (f : For
   home_needed ps (Feed v) w l h n i = elim i [ inl k ↦ subst (λ t. IsIn t (map least_node ps)) (sym k) (home_of_end ps v l h n) | inr j ↦ absurd j ]
 
   pub covers : (ps : List PieceLists) (e : Ends) → AreNodes (length net.supply) e → ArePiecesOf net (values_of (state_of f)) ps → AreNeededFor ps e → HoldEnds ps e
-      → (w : ℕ) → IsIn w (homes_needed f.homes.items e) ↔ IsIn w (map least_node ps)
+      → (w : ℕ) → IsIn w (homes_needed homes e) ↔ IsIn w (map least_node ps)
   covers ps e l h n holds w = (
     home_needed ps e w l h holds,
     (λ i.
         let r = in_map_of least_node w ps i in
         let u = has_end ps r.0 e l n r.1 in
-        subst (λ t. IsIn t (homes_needed f.homes.items e)) (sym (r.2 ∙ least_home u.0 ps r.0 u.2 h r.1 u.1)) u.3),
+        subst (λ t. IsIn t (homes_needed homes e)) (sym (r.2 ∙ least_home u.0 ps r.0 u.2 h r.1 u.1)) u.3),
   )
 
   -- ---- the pivot that can be made
@@ -269,26 +273,24 @@ module _ (net : Network) (real : ℕ) (grounded : HasRealArcs net real) (f : For
     basic_below p q x i = ((basics_hold net.arcs (values_of pivoted.0).mark x.0).0 ((q.part.is_piece.touched x.0).0 (in_map (λ (b : ℕ × Ends × Ratio). b.0) x p.basics i)).0).0
 
     -- new pieces lie within the tables
-    pub lies_within : (g : Forest) → length g.slots.items ≡ length f.slots.items → length g.homes.items ≡ length f.homes.items → length g.potentials.items ≡ length f.potentials.items
+    pub lies_within : (g : Forest) → length g.slots.items ≡ length f.slots.items → length g.potentials.items ≡ length f.potentials.items
         → length g.flows.items ≡ length f.flows.items → (p : PieceLists) → IsIn p (lists_in change) → LiesWithin g p
-    lies_within g a b c d p i =
+    lies_within g a c d p i =
         let x = pivoted in
         let q : IsPieceOf net (values_of x.0) p = x.2.pieces_of.each p i in
         record {
           some = some_node p q.part.least q.part.is_piece.has_least;
           slot = let r = (q.part.is_piece.joined (least_node p)).0 (has_least p q.part.least q.part.is_piece.has_least) in omega (arith, r.0, a, kept.slot_each);
-          homes = λ k e l. let r = node_below p q (slice_index_or p.nodes k e) (place_in p.nodes e k l) in omega (arith, r, b, kept.home_each);
           potentials = λ k e l. let r = node_below p q (slice_index_or p.nodes k e) (place_in p.nodes e k l) in omega (arith, r, c, st.one_potential_each);
           flows = λ k e l. let r = basic_below p q (slice_index_or p.basics k e) (place_in p.basics e k l) in omega (arith, r, d, st.feasible.one_each);
         }
 
-    pub made : (g : Forest) → g.slots.items ≡ written (filled (stores_in change)) (written (emptied (homes_needed f.homes.items (ends_at net.arcs entry.enter))) f.slots.items)
-        → g.homes.items ≡ written (flat_map homes_of (lists_in change)) f.homes.items
+    pub made : (g : Forest) → g.slots.items ≡ written (filled (stores_in change)) (written (emptied (homes_needed homes (ends_at net.arcs entry.enter))) f.slots.items)
         → g.potentials.items ≡ written (flat_map potentials_of (lists_in change)) f.potentials.items
         → g.flows.items ≡ slice_set (written (flat_map flows_written (lists_in change)) f.flows.items) entry.leave (bound_at (arc_at net.arcs entry.leave) entry.leave_at)
         → g.marks.items ≡ slice_set (slice_set f.marks.items entry.enter marked.Basic) entry.leave entry.leave_at
         → IsPivot net real (state_of f) entry (state_of g) × IsKept net g
-    made g a b c d m =
+    made g a c d m =
         let x = pivoted in
         let holds_ends = is_after.ends in
         let is : state_of g ≡ x.0 = same_state (state_of g) x.0
@@ -297,10 +299,8 @@ module _ (net : Network) (real : ℕ) (grounded : HasRealArcs net real) (f : For
         (c ∙ tables.potentials_after net real grounded (state_of f) st can.pieces can.pieces_of entry x.0 x.1 (lists_in change) x.2 holds_ends) in
         let cover = covers can.pieces (ends_at net.arcs entry.enter) (joins entry.enter (ends_at net.arcs entry.enter) enter_below refl) can.pieces_of can.needed holds_ends in
         let after = subst (ArePiecesAfter net can.pieces x.0) (sym (all_lists change)) x.2 in
-        let holds = steps.holds_after net real grounded (state_of f) st f.slots.items f.homes.items kept can.pieces can.pieces_of (homes_needed f.homes.items (ends_at net.arcs entry.enter)) cover entry x.0 x.1 (stores_in change) after holds_ends in (
+        let holds = steps.holds_after net real grounded (state_of f) st f.slots.items kept can.pieces can.pieces_of (homes_needed homes (ends_at net.arcs entry.enter)) cover entry x.0 x.1 (stores_in change) after holds_ends in (
           subst (IsPivot net real (state_of f) entry) (sym is) x.1,
-          subst (Holds net (values_of (state_of g)) g.slots.items) (sym (b ∙ ap (λ ls. written (flat_map homes_of ls) f.homes.items) (sym (all_lists change))))
-              (subst (λ ss. Holds net (values_of (state_of g)) ss (written (flat_map homes_of (lists_all (stores_in change))) f.homes.items)) (sym a)
-              (subst (λ w. Holds net (values_of w) (written (filled (stores_in change)) (written (emptied (homes_needed f.homes.items (ends_at net.arcs entry.enter))) f.slots.items))
-              (written (flat_map homes_of (lists_all (stores_in change))) f.homes.items)) (sym is) holds)),
+          subst (Holds net (values_of (state_of g))) (sym a)
+              (subst (λ w. Holds net (values_of w) (written (filled (stores_in change)) (written (emptied (homes_needed homes (ends_at net.arcs entry.enter))) f.slots.items))) (sym is) holds),
         )

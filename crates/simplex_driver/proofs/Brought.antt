@@ -16,7 +16,7 @@ use Rattle.pivot_workers.specs.Forests.{AreForest}
 use Rattle.quasi_tree.specs.Store.{Store}
 use Rattle.simplex_driver.specs.declared.forest.Forest.{Forest}
 use Rattle.simplex_driver.specs.Rounds.{IsSized, all_flows}
-use Rattle.simplex_driver.specs.Store.{lists_all, written, filled, homes_of, potentials_of, LiesWithin}
+use Rattle.simplex_driver.specs.Store.{lists_all, written, filled, potentials_of, LiesWithin}
 use Rattle.simplex_driver.proofs.Attempts.{place_in, some_node}
 use Rattle.simplex_driver.proofs.Stepped.{has_least}
 use Rattle.simplex_driver.proofs.Tables.{length_written, written_append}
@@ -24,7 +24,6 @@ use Rattle.simplex_driver.proofs.Tables.{length_written, written_append}
 -- what the tables are after these pieces are brought home
 pub record IsBrought (net : Network) (f : Forest) (ps : List Store) (g : Forest) : Type 0 where
   pub slots : g.slots.items ≡ written (filled ps) f.slots.items
-  pub homes : g.homes.items ≡ written (flat_map homes_of (lists_all ps)) f.homes.items
   pub potentials : g.potentials.items ≡ written (flat_map potentials_of (lists_all ps)) f.potentials.items
   pub flows : g.flows.items ≡ written (flat_map (all_flows net) (lists_all ps)) f.flows.items
   pub marks : g.marks.items ≡ written (flat_map marks_of (lists_all ps)) f.marks.items
@@ -41,22 +40,20 @@ slots_more ps p f g h so_far step =
     ∙ ap (λ es. written es f) (sym (map-append (λ (x : Store). (least_node x.lists, Some x)) ps (p ∷ [])))
 
 pub one_brought : (net : Network) (f : Forest) (ps : List Store) (g : Forest) (p : Store) (h : Forest) → IsBrought net f ps g → h.slots.items ≡ slice_set g.slots.items (least_node p.lists) (Some p)
-    → h.homes.items ≡ written (homes_of p.lists) g.homes.items → h.potentials.items ≡ written (potentials_of p.lists) g.potentials.items
+    → h.potentials.items ≡ written (potentials_of p.lists) g.potentials.items
     → h.flows.items ≡ written (all_flows net p.lists) g.flows.items → h.marks.items ≡ written (marks_of p.lists) g.marks.items → IsBrought net f (ps ++ p ∷ []) h
-one_brought net f ps g p h b slots homes potentials flows marks = record {
+one_brought net f ps g p h b slots potentials flows marks = record {
   slots = slots_more ps p f.slots.items g.slots.items h.slots.items b.slots slots;
-  homes = table_more homes_of ps p f.homes.items g.homes.items h.homes.items b.homes homes;
   potentials = table_more potentials_of ps p f.potentials.items g.potentials.items h.potentials.items b.potentials potentials;
   flows = table_more (all_flows net) ps p f.flows.items g.flows.items h.flows.items b.flows flows;
   marks = table_more marks_of ps p f.marks.items g.marks.items h.marks.items b.marks marks;
 }
 
 -- tables with other flows and marks, as many as before
-pub sized_so : (net : Network) (f g : Forest) → IsSized net f → g.slots.items ≡ f.slots.items → g.homes.items ≡ f.homes.items → g.potentials.items ≡ f.potentials.items
+pub sized_so : (net : Network) (f g : Forest) → IsSized net f → g.slots.items ≡ f.slots.items → g.potentials.items ≡ f.potentials.items
     → length g.flows.items ≡ length f.flows.items → length g.marks.items ≡ length f.marks.items → IsSized net g
-sized_so net f g s slots homes potentials flows marks = record {
+sized_so net f g s slots potentials flows marks = record {
   slot_each = ap length slots ∙ s.slot_each;
-  home_each = ap length homes ∙ s.home_each;
   potential_each = ap length potentials ∙ s.potential_each;
   flow_each = flows ∙ s.flow_each;
   mark_each = marks ∙ s.mark_each;
@@ -66,7 +63,6 @@ sized_so net f g s slots homes potentials flows marks = record {
 pub sized_still : (net : Network) (f : Forest) (ps : List Store) (g : Forest) → IsSized net f → IsBrought net f ps g → IsSized net g
 sized_still net f ps g s b = record {
   slot_each = ap length b.slots ∙ length_written (filled ps) f.slots.items ∙ s.slot_each;
-  home_each = ap length b.homes ∙ length_written (flat_map homes_of (lists_all ps)) f.homes.items ∙ s.home_each;
   potential_each = ap length b.potentials ∙ length_written (flat_map potentials_of (lists_all ps)) f.potentials.items ∙ s.potential_each;
   flow_each = ap length b.flows ∙ length_written (flat_map (all_flows net) (lists_all ps)) f.flows.items ∙ s.flow_each;
   mark_each = ap length b.marks ∙ length_written (flat_map marks_of (lists_all ps)) f.marks.items ∙ s.mark_each;
@@ -99,7 +95,6 @@ module _ (net : Network) (p : PieceLists) (h : IsInNet net p) where
   lies_in f s = record {
     some = let r = h.shape.quasi_tree.some_node in some_node p r.0 r.1;
     slot = let r = h.shape.quasi_tree.some_node in let l = h.nodes (least_node p) (has_least p r.0 r.1) in omega (arith, l, s.slot_each);
-    homes = λ k x l. let r = node_below _ (place_in p.nodes x k l) in omega (arith, r, s.home_each);
     potentials = λ k x l. let r = node_below _ (place_in p.nodes x k l) in omega (arith, r, s.potential_each);
     flows = basics_within (length f.flows.items) s.flow_each;
   }

@@ -17,7 +17,7 @@ use Rattle.pivot_workers.specs.Forests.{AreForest}
 use Rattle.quasi_tree.specs.Store.{Store}
 use Rattle.simplex_driver.specs.declared.forest.Forest.{Forest}
 use Rattle.simplex_driver.specs.Rounds.{pieces_in}
-use Rattle.simplex_driver.specs.Store.{lists_all, slot_at, home_at, state_of, IsKept}
+use Rattle.simplex_driver.specs.Store.{lists_all, slot_at, state_of, IsKept}
 use Rattle.simplex_driver.proofs.Stepped.{no_piece, none_some}
 
 -- ---- pieces and slots
@@ -63,9 +63,9 @@ module _ (net : Network) (f : Forest) (kept : IsKept net f) where
 
   pub whole_in_slots : (v : ℕ) → v < length net.supply → IsIn v (nodes_of (lists_all (pieces_in f.slots.items)))
   whole_in_slots v l =
-      let r = kept.at_home v l in
-      in_flat nodes_in (lists_all (pieces_in f.slots.items)) r.0.lists v
-      (in_map (λ (x : Store). x.lists) r.0 (pieces_in f.slots.items) (slot_in f.slots.items (home_at f.homes.items v) r.0 r.1)) r.2
+      let r = kept.whole v l in
+      in_flat nodes_in (lists_all (pieces_in f.slots.items)) r.1.0.lists v
+      (in_map (λ (x : Store). x.lists) r.1.0 (pieces_in f.slots.items) (slot_in f.slots.items r.0 r.1.0 r.1.1)) r.1.2
 
   pub forest_of_slots : IsState net (state_of f) → AreForest net (lists_all (pieces_in f.slots.items))
   forest_of_slots st = record { state = state_of f; is_state = st; pieces_of = pieces_of_slots; whole = whole_in_slots }

@@ -1,5 +1,5 @@
 -- The tables that pieces of a state are written into are that state, where each node is in one of them.
-use Rattle.std.specs.Prelude.{◌≡◌, ◌⊎◌, ℕ, ◌<◌, List, length, map, Option, Some, None, slice_index_or}
+use Rattle.std.specs.Prelude.{◌≡◌, ◌⊎◌, ℕ, ◌<◌, List, length, map, Option, Some, None}
 use Rattle.std.specs.List.{flat_map}
 use Rattle.std.proofs.Common.{refl, sym, ap, subst, ◌∙◌, inl, inr, arith}
 use Rattle.std.proofs.lemmas.List.{ext_get_or}
@@ -24,7 +24,7 @@ use Rattle.np_basis.proofs.Reading.{in_flat, in_flat_of, stands_bound}
 use Rattle.quasi_tree.specs.Store.{Store}
 use Rattle.simplex_driver.specs.declared.forest.Forest.{Forest}
 use Rattle.simplex_driver.specs.Rounds.{IsSized, bounds_written, all_flows}
-use Rattle.simplex_driver.specs.Store.{lists_all, written, filled, homes_of, potentials_of, flows_written, slot_at, state_of, Holds, IsKept}
+use Rattle.simplex_driver.specs.Store.{lists_all, written, filled, potentials_of, flows_written, slot_at, state_of, IsInSlot, Holds, IsKept}
 use Rattle.simplex_driver.proofs.Attempts.{same_state}
 use Rattle.simplex_driver.proofs.SecondStage.{touch_tail, tail_below}
 use Rattle.simplex_driver.proofs.Stepped.{some_one, none_some, slot_below, has_least}
@@ -159,7 +159,7 @@ module _ (net : Network) (sound : HasSoundArcs net) (t : State) (st : IsState ne
       written_has (λ u x. x ≡ at t.flows u) zero_ratio (flat_map (all_flows net) ls) f.flows.items flow_entry a (omega (arith, l, n, sized.flow_each))
       (inl (has_flow a (omega (arith, l, n)))))
 
-  -- ---- slots and homes
+  -- ---- slots
 
   abbrev new_slots : List (Option Store)
   new_slots = written (filled ps) f.slots.items
@@ -197,45 +197,26 @@ module _ (net : Network) (sound : HasSoundArcs net) (t : State) (st : IsState ne
       ))
       v l (inr (λ p k. absurd (none_some p (sym (empty v) ∙ k))))
 
-  home_entry : (e : ℕ × ℕ) → IsIn e (flat_map homes_of ls) → (p : Store) × (slot_at (written (filled ps) f.slots.items) e.1 ≡ Some p) × IsIn e.0 (nodes_in p.lists)
-  home_entry e i =
-      let r = in_flat_of homes_of ls e i in
+  in_its_slot : (v : ℕ) → v < length net.supply → (u : ℕ) × IsInSlot (written (filled ps) f.slots.items) u v
+  in_its_slot v l =
+      let r = in_flat_of nodes_in ls v (whole v l) in
       let q = in_map_of (λ (x : Store). x.lists) r.0 ps r.1 in
-      let n = in_map_of (λ (x : ℕ × Ratio). (x.0, least_node r.0)) e r.0.nodes r.2 in
-      let x = new_there q.0 q.1 in (
-        x.0,
-        ap (λ u. slot_at (written (filled ps) f.slots.items) u) (ap (λ (z : ℕ × ℕ). z.1) n.2 ∙ ap least_node q.2) ∙ x.1,
-        subst (λ z. IsIn e.0 (nodes_in z)) (q.2 ∙ sym x.2) (subst (λ u. IsIn u (nodes_in r.0)) (sym (ap (λ (z : ℕ × ℕ). z.0) n.2)) (in_map (λ (z : ℕ × Ratio). z.0) n.0 r.0.nodes n.1)),
-      )
-
-  has_home : (v : ℕ) → IsIn v (nodes_of ls) → Has (flat_map homes_of ls) v
-  has_home v i =
-      let r = in_flat_of nodes_in ls v i in
-      let n = in_map_of (λ (x : ℕ × Ratio). x.0) v r.0.nodes r.2 in
-      ((n.0.0, least_node r.0), in_flat homes_of ls r.0 (n.0.0, least_node r.0) r.1 (in_map (λ (x : ℕ × Ratio). (x.0, least_node r.0)) n.0 r.0.nodes n.1), sym n.2)
-
-  at_home : (v : ℕ) → v < length net.supply
-      → (p : Store) × (slot_at (written (filled ps) f.slots.items) (slice_index_or (written (flat_map homes_of ls) f.homes.items) v 0) ≡ Some p) × IsIn v (nodes_in p.lists)
-  at_home v l =
-      written_has (λ u home. (p : Store) × (slot_at (written (filled ps) f.slots.items) home ≡ Some p) × IsIn u (nodes_in p.lists)) 0 (flat_map homes_of ls) f.homes.items home_entry v
-      (omega (arith, l, sized.home_each)) (inl (has_home v (whole v l)))
+      let x = new_there q.0 q.1 in
+      (least_node q.0.lists, (x.0, x.1, subst (λ z. IsIn v (nodes_in z)) (q.2 ∙ sym x.2) r.2))
 
   slots_long : length (written (filled ps) f.slots.items) ≡ length f.slots.items
   slots_long = length_written (filled ps) f.slots.items
 
-  pub home_again : (g : Forest) → g.slots.items ≡ written (filled ps) f.slots.items → g.homes.items ≡ written (flat_map homes_of ls) f.homes.items
+  pub home_again : (g : Forest) → g.slots.items ≡ written (filled ps) f.slots.items
       → g.potentials.items ≡ written (flat_map potentials_of ls) f.potentials.items → g.flows.items ≡ written (flat_map (all_flows net) ls) f.flows.items
       → g.marks.items ≡ written (flat_map marks_of ls) f.marks.items → (state_of g ≡ t) × IsKept net g
-  home_again g slots homes potentials flows marks =
+  home_again g slots potentials flows marks =
       let is : state_of g ≡ t = same_state (state_of g) t (marks ∙ marks_are) (flows ∙ flows_are) (potentials ∙ potentials_are) in
-      let holds : Holds net (values_of t) (written (filled ps) f.slots.items) (written (flat_map homes_of ls) f.homes.items) = record {
+      let holds : Holds net (values_of t) (written (filled ps) f.slots.items) = record {
         slot_each = slots_long ∙ sized.slot_each;
-        home_each = length_written (flat_map homes_of ls) f.homes.items ∙ sized.home_each;
         pieces = λ v p e. in_slot v (let l = slot_below (written (filled ps) f.slots.items) v p e in omega (arith, l, slots_long)) p e;
-        at_home = at_home;
+        whole = in_its_slot;
       } in (
         is,
-        subst (λ ss. Holds net (values_of (state_of g)) ss g.homes.items) (sym slots)
-            (subst (λ hs. Holds net (values_of (state_of g)) (written (filled ps) f.slots.items) hs) (sym homes)
-            (subst (λ s. Holds net (values_of s) (written (filled ps) f.slots.items) (written (flat_map homes_of ls) f.homes.items)) (sym is) holds)),
+        subst (Holds net (values_of (state_of g))) (sym slots) (subst (λ s. Holds net (values_of s) (written (filled ps) f.slots.items)) (sym is) holds),
       )

@@ -18,12 +18,11 @@ pub written_one : {A : Type 0} (f : PieceLists → List (ℕ × A)) (p : PieceLi
 written_one f p xs = sym (written_append (f p) [] xs)
 
 -- tables as long as before take the same writes
-pub within_after : (f g : Forest) (p : PieceLists) → length g.slots.items ≡ length f.slots.items → length g.homes.items ≡ length f.homes.items
+pub within_after : (f g : Forest) (p : PieceLists) → length g.slots.items ≡ length f.slots.items
     → length g.potentials.items ≡ length f.potentials.items → length g.flows.items ≡ length f.flows.items → LiesWithin f p → LiesWithin g p
-within_after f g p e a b d h = record {
+within_after f g p e b d h = record {
   some = h.some;
   slot = let r = h.slot in omega arith;
-  homes = λ k x l. let r = h.homes k x l in omega arith;
   potentials = λ k x l. let r = h.potentials k x l in omega arith;
   flows = λ k x l. let r = h.flows k x l in omega arith;
 }

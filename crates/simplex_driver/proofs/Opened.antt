@@ -4,7 +4,7 @@ use Rattle.std.specs.List.{range_with_len}
 use Rattle.std.proofs.Common.{refl, sym, ap, subst, ◌∙◌, inl, inr, arith, get_or, append_assoc}
 use Rattle.std.proofs.lemmas.Bool.{cases_eq}
 use Rattle.std.proofs.lemmas.List.{length_push, get_or_push, get_or_append_left}
-use Rattle.std.proofs.lemmas.List.FromFn.{length-range_with_len, get_or-range_with_len, map-range_with_len_more}
+use Rattle.std.proofs.lemmas.List.FromFn.{map-range_with_len_more}
 use Rattle.gain_graphs.specs.Arcs.{IsIn}
 use Rattle.np_model.specs.declared.arc.Ends.{Ends}
 use Rattle.np_model.specs.declared.arc.NetArc.{NetArc}
@@ -21,7 +21,7 @@ use Rattle.quasi_tree.specs.Store.{Store}
 use Rattle.quasi_tree.specs.declared.lists.MarkList.{MarkList}
 use Rattle.quasi_tree.proofs.Starts.{one_more_mark}
 use Rattle.simplex_driver.specs.declared.forest.Forest.{Forest}
-use Rattle.simplex_driver.specs.Store.{state_of, slot_at, home_at, IsKept}
+use Rattle.simplex_driver.specs.Store.{state_of, slot_at, IsKept}
 use Rattle.simplex_driver.specs.Opening.{HaveMarks, AreSingles}
 use Rattle.simplex_driver.proofs.Attempts.{same_state}
 use Rattle.simplex_driver.proofs.Stepped.{some_one, slot_below}
@@ -51,17 +51,6 @@ one_more_piece net i old new p before is after = record {
   ];
 }
 
--- the next number
-each_same : (xs : List ℕ) → map (λ (v : ℕ). v) xs ≡ xs
-each_same [] = refl
-each_same (x ∷ xs) = ap (λ t. x ∷ t) (each_same xs)
-
-pub one_more_home : (i : ℕ) (old new : List ℕ) → old ≡ range_with_len 0 i → new ≡ old ++ i ∷ [] → new ≡ range_with_len 0 (i + 1)
-one_more_home i old new before after =
-    after ∙ ap (λ t. t ++ i ∷ []) (before ∙ sym (each_same (range_with_len 0 i)))
-    ∙ sym (map-range_with_len_more (λ (v : ℕ). v) 0 i i (omega arith))
-    ∙ each_same (range_with_len 0 (i + 1))
-
 -- the same mark once more
 pub one_more_time : (mark : Mark) (i : ℕ) (start old new : List Mark) → old ≡ start ++ map (λ (v : ℕ). mark) (range_with_len 0 i) → new ≡ old ++ mark ∷ []
     → new ≡ start ++ map (λ (v : ℕ). mark) (range_with_len 0 (i + 1))
@@ -87,14 +76,10 @@ is_start_state net artificial s at_start marks flows potentials =
 
 -- ---- its pieces
 
-from_zero : (v : ℕ) → 0 + v ≡ v
-from_zero v = omega arith
-
-pub is_kept : (net : Network) (f : Forest) → state_of f ≡ start_state net → AreSingles net (length net.supply) f.slots.items → f.homes.items ≡ range_with_len 0 (length net.supply)
+pub is_kept : (net : Network) (f : Forest) → state_of f ≡ start_state net → AreSingles net (length net.supply) f.slots.items
     → IsKept (start_net One net) f
-is_kept net f same singles homes = record {
+is_kept net f same singles = record {
   slot_each = singles.slot_each;
-  home_each = ap length homes ∙ length-range_with_len 0 (length net.supply);
   pieces = λ v p there.
       let r = singles.single v (omega (arith, slot_below f.slots.items v p there, singles.slot_each)) in
       let one : p.lists ≡ start_piece net v = ap (λ (q : Store). q.lists) (some_one p r.0 (sym there ∙ r.1)) ∙ r.2 in (
@@ -102,10 +87,5 @@ is_kept net f same singles homes = record {
             (subst (λ q. IsPieceOf (start_net One net) (values_of (start_state net)) q) (sym one) (start_piece_is_piece net v (omega (arith, slot_below f.slots.items v p there, singles.slot_each)))),
         ap least_node one,
       );
-  at_home = λ v l.
-      let r = singles.single v l in (
-        r.0,
-        ap (λ t. slot_at f.slots.items t) (ap (λ t. home_at t v) homes ∙ get_or-range_with_len 0 (length net.supply) v 0 l ∙ from_zero v) ∙ r.1,
-        subst (λ q. IsIn v (nodes_in q)) (sym r.2) (inl refl),
-      );
+  whole = λ v l. let r = singles.single v l in (v, (r.0, r.1, subst (λ q. IsIn v (nodes_in q)) (sym r.2) (inl refl)));
 }

@@ -37,7 +37,7 @@ use Rattle.quasi_tree.specs.Store.{Store}
 use Rattle.np_basis.proofs.Fulls.{full_net_is_sound}
 use Rattle.tree_potentials.specs.declared.refusal.PotentialRefusal.{PotentialRefusal}
 use Rattle.simplex_driver.specs.declared.forest.Forest.{Forest}
-use Rattle.simplex_driver.specs.Store.{state_of, slot_at, home_at, Holds, IsKept}
+use Rattle.simplex_driver.specs.Store.{state_of, slot_at, Holds, IsKept}
 use Rattle.simplex_driver.specs.Turns.{CanTurn, IsPieceTurned, IsSlotTurned, AreTurned, IsTurnCause}
 use Rattle.simplex_driver.proofs.Attempts.{one_piece, same_state}
 use Rattle.simplex_driver.proofs.Stepped.{some_one, none_some, slot_below}
@@ -64,12 +64,13 @@ module _ (net : Network) (ext : List Ends) (f : Forest) (st : IsState (with_arti
     abbrev pub after : State
     after = record { marks = f.marks.items; flows = f.flows.items; potentials = table }
 
-    -- the piece at the home of a node, before and after
+    -- the piece of a node, before and after
     record AtHome (v : ℕ) : Type 0 where
+      pub slot : ℕ
       pub old : Store
       pub new : Store
-      pub was : slot_at f.slots.items (home_at f.homes.items v) ≡ Some old
-      pub is : slot_at slots (home_at f.homes.items v) ≡ Some new
+      pub was : slot_at f.slots.items slot ≡ Some old
+      pub is : slot_at slots slot ≡ Some new
       pub of_turn : IsPieceTurned (with_artificial Two net ext) table old.lists new.lists
       pub has : IsIn v (nodes_in old.lists)
 
@@ -78,12 +79,12 @@ module _ (net : Network) (ext : List Ends) (f : Forest) (st : IsState (with_arti
 
     at_home : (v : ℕ) → v < length net.supply → AtHome v
     at_home v l =
-        let r = kept.at_home v l in
-        let t = slot_turned (home_at f.homes.items v) r.0 r.1 in
-        record { old = r.0; new = t.0; was = r.1; is = t.1; of_turn = t.2; has = r.2 }
+        let r = kept.whole v l in
+        let t = slot_turned r.0 r.1.0 r.1.1 in
+        record { slot = r.0; old = r.1.0; new = t.0; was = r.1.1; is = t.1; of_turn = t.2; has = r.1.2 }
 
     old_piece : (v : ℕ) (h : AtHome v) → IsPieceOf (with_artificial One net ext) (values_of (state_of f)) h.old.lists
-    old_piece v h = (kept.pieces (home_at f.homes.items v) h.old h.was).0
+    old_piece v h = (kept.pieces h.slot h.old h.was).0
 
     -- ---- potentials
 
@@ -173,19 +174,18 @@ module _ (net : Network) (ext : List Ends) (f : Forest) (st : IsState (with_arti
         let is = subst (λ (x : Store). IsPieceTurned (with_artificial Two net ext) table p.lists x.lists) same t.2 in
         (new_piece p.lists q.lists (kept.pieces v p e).0 is, ap (λ ns. slice_index ns 0) is.nodes ∙ (kept.pieces v p e).1)
 
-    pub holds_after : Holds (with_artificial Two net ext) (values_of after) slots f.homes.items
+    pub holds_after : Holds (with_artificial Two net ext) (values_of after) slots
     holds_after = record {
       slot_each = turned.long ∙ kept.slot_each;
-      home_each = kept.home_each;
       pieces = λ v q k. in_slot v q (slot_at f.slots.items v) refl k;
-      at_home = λ v l. let h = at_home v l in (h.new, h.is, subst (IsIn v) (sym h.of_turn.nodes) h.has);
+      whole = λ v l. let h = at_home v l in (h.slot, (h.new, h.is, subst (IsIn v) (sym h.of_turn.nodes) h.has));
     }
 
 -- ---- what the turn of the pieces comes to
 
 module _ (full : FullNet) (f : Forest) (artificial : full.artificial ≡ artificial_ends (network_of full.net)) (kept : IsKept (phase_net One full) f) (st : IsState (phase_net One full) (state_of f))
     (none : HasNoArtificialFlow (network_of full.net) (state_of f)) (slots before : List (Option Store)) (table old : List Ratio) (was : before ≡ f.slots.items) (is_old : old ≡ f.potentials.items)
-    (long : length table ≡ length old) (g : Forest) (slots_are : g.slots.items ≡ slots) (table_is : g.potentials.items ≡ table) (homes : g.homes.items ≡ f.homes.items) (flows : g.flows.items ≡ f.flows.items) (marks : g.marks.items ≡ f.marks.items) where
+    (long : length table ≡ length old) (g : Forest) (slots_are : g.slots.items ≡ slots) (table_is : g.potentials.items ≡ table) (flows : g.flows.items ≡ f.flows.items) (marks : g.marks.items ≡ f.marks.items) where
   state_is : state_of g ≡ record { marks = f.marks.items; flows = f.flows.items; potentials = table }
   state_is = same_state (state_of g) (record { marks = f.marks.items; flows = f.flows.items; potentials = table }) marks flows table_is
 
@@ -200,8 +200,7 @@ module _ (full : FullNet) (f : Forest) (artificial : full.artificial ≡ artific
   pub kept_ok : (result : Result (Unit {0}) PotentialRefusal) → MatchResult result (λ _. AreTurned (phase_net Two full) before slots table) (IsTurnCause (phase_net Two full) before)
       → IfOk result (λ _. IsKept (phase_net Two full) g)
   kept_ok (Ok u) t =
-      subst (λ s. Holds (phase_net Two full) (values_of s) g.slots.items g.homes.items) (sym state_is)
-      (subst (λ hs. Holds (phase_net Two full) (values_of (record { marks = f.marks.items; flows = f.flows.items; potentials = table })) g.slots.items hs) (sym homes)
-      (subst (λ ss. Holds (phase_net Two full) (values_of (record { marks = f.marks.items; flows = f.flows.items; potentials = table })) ss f.homes.items) (sym slots_are)
-      (holds_after (network_of full.net) full.artificial f st kept (full_net_is_sound One full) slots table (long ∙ ap length is_old) (turned_from t))))
+      subst (λ s. Holds (phase_net Two full) (values_of s) g.slots.items) (sym state_is)
+      (subst (Holds (phase_net Two full) (values_of (record { marks = f.marks.items; flows = f.flows.items; potentials = table }))) (sym slots_are)
+      (holds_after (network_of full.net) full.artificial f st kept (full_net_is_sound One full) slots table (long ∙ ap length is_old) (turned_from t)))
   kept_ok (Err e) t = record {}

@@ -1,11 +1,9 @@
--- After a pivot the slots and homes are those of the state afterwards.
+-- After a pivot the slots are those of the state afterwards.
 use Rattle.std.specs.Prelude.{◌≡◌, ◌⊎◌, ◌↔◌, ℕ, ◌<◌, List, [], ◌∷◌, length, map, slice_index, Option, Some, None}
-use Rattle.std.specs.List.{flat_map}
 use Rattle.std.proofs.Common.{refl, sym, ap, subst, ◌∙◌, inl, inr, arith}
 use Rattle.std.proofs.Math.ListN.{get_or-eq_default}
 use Rattle.gain_graphs.specs.Arcs.{IsIn}
 use Rattle.gain_graphs.proofs.Lists.{in_map, in_map_of, decide_in}
-use Rattle.np_frac.specs.Ratio.{Ratio}
 use Rattle.np_model.specs.declared.log.Entry.{Entry}
 use Rattle.np_model.specs.Network.Flows.{Network}
 use Rattle.np_model.specs.Basis.Graphs.{ends_at}
@@ -18,7 +16,7 @@ use Rattle.np_basis.proofs.Cutting.{piece_is_unique}
 use Rattle.np_basis.proofs.Pivoting.{others_are_kept}
 use Rattle.np_basis.proofs.Reading.{in_flat, in_flat_of}
 use Rattle.quasi_tree.specs.Store.{Store}
-use Rattle.simplex_driver.specs.Store.{lists_all, written, homes_of, emptied, filled, slot_at, home_at, Holds}
+use Rattle.simplex_driver.specs.Store.{lists_all, written, emptied, filled, slot_at, IsInSlot, Holds}
 use Rattle.simplex_driver.proofs.Tables.{Has, length_written, written_has, written_off}
 
 pub some_one : {A : Type 0} (x y : A) → Some x ≡ Some y → x ≡ y
@@ -48,7 +46,7 @@ slot_below xs h p e = elim (cases h (length xs)) [
   | inr l ↦ absurd (none_some p (sym (get_or-eq_default xs no_piece (omega (arith, l))) ∙ e))
 ]
 
-module _ (net : Network) (real : ℕ) (ground : HasRealArcs net real) (s : State) (st : IsState net s) (slots : List (Option Store)) (homes : List ℕ) (h : Holds net (values_of s) slots homes)
+module _ (net : Network) (real : ℕ) (ground : HasRealArcs net real) (s : State) (st : IsState net s) (slots : List (Option Store)) (h : Holds net (values_of s) slots)
     (ps : List PieceLists) (pieces : ArePiecesOf net (values_of s) ps) (hs : List ℕ) (covers : (v : ℕ) → IsIn v hs ↔ IsIn v (map least_node ps))
     (entry : Entry) (t : State) (pivot : IsPivot net real s entry t) (qs : List Store) (after : ArePiecesAfter net ps t (lists_all qs))
     (lies : HoldEnds ps (ends_at net.arcs entry.enter)) where
@@ -124,50 +122,42 @@ module _ (net : Network) (real : ℕ) (ground : HasRealArcs net real) (s : State
       (r.0, ap (λ (z : ℕ × Option Store). z.1) r.2, same))
       (least_node q.lists) (omega (arith, length_written (emptied hs) slots, q_below q i)) (inl ((least_node q.lists, Some q), in_map (λ (y : Store). (least_node y.lists, Some y)) q qs i, refl)) q i refl
 
-  -- a node of the new pieces, and no other, is at home in one of them
-  home_entry : (e : ℕ × ℕ) → IsIn e (flat_map homes_of (lists_all qs)) → (p : Store) × (slot_at (written (filled qs) (written (emptied hs) slots)) e.1 ≡ Some p) × IsIn e.0 (nodes_in p.lists)
-  home_entry e i =
-      let r = in_flat_of homes_of (lists_all qs) e i in
-      let q = in_map_of (λ (x : Store). x.lists) r.0 qs r.1 in
-      let n = in_map_of (λ (x : ℕ × Ratio). (x.0, least_node r.0)) e r.0.nodes r.2 in
-      let x = new_there q.0 q.1 in (
-        x.0,
-        ap (λ u. slot_at (written (filled qs) (written (emptied hs) slots)) u) (ap (λ (z : ℕ × ℕ). z.1) n.2 ∙ ap least_node q.2) ∙ x.1,
-        subst (λ z. IsIn e.0 (nodes_in z)) (q.2 ∙ sym x.2) (subst (λ u. IsIn u (nodes_in r.0)) (sym (ap (λ (z : ℕ × ℕ). z.0) n.2)) (in_map (λ (z : ℕ × Ratio). z.0) n.0 r.0.nodes n.1)),
-      )
-
-  has_home : (v : ℕ) → IsIn v (nodes_of (lists_all qs)) → Has (flat_map homes_of (lists_all qs)) v
-  has_home v i =
+  -- a node of the new pieces is in the slot of one of them, and each other node in that of the piece before
+  new_slot : (v : ℕ) → IsIn v (nodes_of (lists_all qs)) → (u : ℕ) × IsInSlot (written (filled qs) (written (emptied hs) slots)) u v
+  new_slot v i =
       let r = in_flat_of nodes_in (lists_all qs) v i in
-      let n = in_map_of (λ (x : ℕ × Ratio). x.0) v r.0.nodes r.2 in
-      ((n.0.0, least_node r.0), in_flat homes_of (lists_all qs) r.0 (n.0.0, least_node r.0) r.1 (in_map (λ (x : ℕ × Ratio). (x.0, least_node r.0)) n.0 r.0.nodes n.1), sym n.2)
+      let q = in_map_of (λ (x : Store). x.lists) r.0 qs r.1 in
+      let x = new_there q.0 q.1 in
+      (least_node q.0.lists, (x.0, x.1, subst (λ z. IsIn v (nodes_in z)) (q.2 ∙ sym x.2) r.2))
 
-  old_home : (v : ℕ) → v < length net.supply → (¬ IsIn v (nodes_of (lists_all qs)))
-      → (p : Store) × (slot_at (written (filled qs) (written (emptied hs) slots)) (home_at homes v) ≡ Some p) × IsIn v (nodes_in p.lists)
-  old_home v l n =
-      let o = h.at_home v l in
-      let is_least : least_node o.0.lists ≡ home_at homes v = (h.pieces (home_at homes v) o.0 o.1).1 in
+  old_slot : (v : ℕ) → v < length net.supply → (¬ IsIn v (nodes_of (lists_all qs))) → (u : ℕ) × IsInSlot (written (filled qs) (written (emptied hs) slots)) u v
+  old_slot v l n =
+      let found = h.whole v l in
+      let slot : ℕ = found.0 in
+      let o = found.1 in
+      let is_least : least_node o.0.lists ≡ slot = (h.pieces slot o.0 o.1).1 in
       let not_old : ¬ IsIn o.0.lists ps = λ i. n ((after.same_nodes v).0 (in_flat nodes_in ps o.0.lists v i o.2)) in (
-        o.0,
-        written_off None (filled qs) (written (emptied hs) slots) (home_at homes v) (λ k.
-            let r = has_filled (home_at homes v) k in
-            let u : IsIn (least_node r.0.lists) (nodes_of ps) = (after.same_nodes (least_node r.0.lists)).1
-            (in_flat nodes_in (lists_all qs) r.0.lists (least_node r.0.lists) (in_map (λ (x : Store). x.lists) r.0 qs r.1) (q_least r.0 r.1)) in
-            not_old (shared (home_at homes v) o.0 (least_node r.0.lists) o.1 (subst (λ w. IsIn w (nodes_in o.0.lists)) (is_least ∙ sym r.2) (has_least o.0.lists v o.2)) u))
-            ∙ written_off None (emptied hs) slots (home_at homes v) (λ k.
-            let r = in_map_of least_node (home_at homes v) ps ((covers (home_at homes v)).0 (has_emptied (home_at homes v) k)) in
-            let old = pieces.each r.0 r.1 in
-            not_old (shared (home_at homes v) o.0 (least_node o.0.lists) o.1 (has_least o.0.lists v o.2)
-            (in_flat nodes_in ps r.0 (least_node o.0.lists) r.1 (subst (λ w. IsIn w (nodes_in r.0)) (sym (is_least ∙ r.2)) (has_least r.0 old.part.least old.part.is_piece.has_least)))))
-            ∙ o.1,
-        o.2,
+        slot,
+        (
+          o.0,
+          written_off None (filled qs) (written (emptied hs) slots) slot (λ k.
+              let r = has_filled slot k in
+              let u : IsIn (least_node r.0.lists) (nodes_of ps) = (after.same_nodes (least_node r.0.lists)).1
+              (in_flat nodes_in (lists_all qs) r.0.lists (least_node r.0.lists) (in_map (λ (x : Store). x.lists) r.0 qs r.1) (q_least r.0 r.1)) in
+              not_old (shared slot o.0 (least_node r.0.lists) o.1 (subst (λ w. IsIn w (nodes_in o.0.lists)) (is_least ∙ sym r.2) (has_least o.0.lists v o.2)) u))
+              ∙ written_off None (emptied hs) slots slot (λ k.
+              let r = in_map_of least_node slot ps ((covers slot).0 (has_emptied slot k)) in
+              let old = pieces.each r.0 r.1 in
+              not_old (shared slot o.0 (least_node o.0.lists) o.1 (has_least o.0.lists v o.2)
+              (in_flat nodes_in ps r.0 (least_node o.0.lists) r.1 (subst (λ w. IsIn w (nodes_in r.0)) (sym (is_least ∙ r.2)) (has_least r.0 old.part.least old.part.is_piece.has_least)))))
+              ∙ o.1,
+          o.2,
+        ),
       )
 
-  pub holds_after : Holds net (values_of t) (written (filled qs) (written (emptied hs) slots)) (written (flat_map homes_of (lists_all qs)) homes)
+  pub holds_after : Holds net (values_of t) (written (filled qs) (written (emptied hs) slots))
   holds_after = record {
     slot_each = long ∙ h.slot_each;
-    home_each = length_written (flat_map homes_of (lists_all qs)) homes ∙ h.home_each;
     pieces = λ v p e. good v (beyond v p e) p e;
-    at_home = λ v l. written_has (λ u home. (p : Store) × (slot_at (written (filled qs) (written (emptied hs) slots)) home ≡ Some p) × IsIn u (nodes_in p.lists)) 0 (flat_map homes_of (lists_all qs)) homes home_entry
-        v (omega (arith, h.home_each)) (elim (decide_in v (nodes_of (lists_all qs))) [ yes i ↦ inl (has_home v i) | no n ↦ inr (old_home v l n) ]);
+    whole = λ v l. elim (decide_in v (nodes_of (lists_all qs))) [ yes i ↦ new_slot v i | no n ↦ old_slot v l n ];
   }

@@ -1,5 +1,6 @@
 -- The driver of pivots.
 pub mod Store
+pub mod Homes
 pub mod Rounds
 pub mod Picks
 pub mod Found

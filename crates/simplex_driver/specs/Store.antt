@@ -3,8 +3,6 @@ use Rattle.std.specs.Prelude.{◌≡◌, ℕ, ◌<◌, List, [], ◌∷◌, leng
 use Rattle.std.specs.List.{All}
 use Rattle.gain_graphs.specs.Arcs.{IsIn}
 use Rattle.np_frac.specs.Ratio.{Ratio}
-use Rattle.np_model.specs.declared.arc.Ends.{Ends}
-use Rattle.np_model.specs.declared.arc.Ends.TheVariants.{Link, Drain, Feed}
 use Rattle.np_model.specs.declared.piece.Hands.{Hands}
 use Rattle.np_model.specs.declared.piece.Hands.TheVariants.{One, Two}
 use Rattle.np_model.specs.Network.Flows.{Network}
@@ -21,20 +19,19 @@ state_of f = record { marks = f.marks.items; flows = f.flows.items; potentials =
 abbrev pub slot_at : List (Option Store) → ℕ → Option Store
 slot_at slots v = slice_index_or slots v None
 
--- the least node of the piece of a node
-abbrev pub home_at : List ℕ → ℕ → ℕ
-home_at homes v = slice_index_or homes v 0
+-- the node is one of the piece in this slot
+abbrev pub IsInSlot : List (Option Store) → ℕ → ℕ → Type 0
+IsInSlot slots slot v = (p : Store) × (slot_at slots slot ≡ Some p) × IsIn v (nodes_in p.lists)
 
--- the slots have pieces of what these values say, each in that of its least node, and each node is at home in a slot whose piece has it
-pub record Holds (net : Network) (s : Values) (slots : List (Option Store)) (homes : List ℕ) : Type 0 where
+-- the slots have pieces of what these values say, each in that of its least node, and each node is one of a piece in a slot
+pub record Holds (net : Network) (s : Values) (slots : List (Option Store)) : Type 0 where
   pub slot_each : length slots ≡ length net.supply
-  pub home_each : length homes ≡ length net.supply
   pub pieces : (v : ℕ) (p : Store) → slot_at slots v ≡ Some p → IsPieceOf net s p.lists × (least_node p.lists ≡ v)
-  pub at_home : (v : ℕ) → v < length net.supply → (p : Store) × (slot_at slots (home_at homes v) ≡ Some p) × IsIn v (nodes_in p.lists)
+  pub whole : (v : ℕ) → v < length net.supply → (slot : ℕ) × IsInSlot slots slot v
 
 -- the pieces at hand are those of the state at hand
 abbrev pub IsKept : Network → Forest → Type 0
-IsKept net f = Holds net (values_of (state_of f)) f.slots.items f.homes.items
+IsKept net f = Holds net (values_of (state_of f)) f.slots.items
 
 -- ---- what is written
 
@@ -43,10 +40,7 @@ abbrev pub written : {A : Type 0} → List (ℕ × A) → List A → List A
 written [] xs = xs
 written (e ∷ es) xs = written es (slice_set xs e.0 e.1)
 
--- what a piece writes into the tables of homes, potentials and flows
-abbrev pub homes_of : PieceLists → List (ℕ × ℕ)
-homes_of p = map (λ n. (n.0, least_node p)) p.nodes
-
+-- what a piece writes into the tables of potentials and flows
 abbrev pub potentials_of : PieceLists → List (ℕ × Ratio)
 potentials_of p = map (λ n. (n.0, n.1)) p.nodes
 
@@ -70,30 +64,11 @@ stores_in (Two piece other) = piece ∷ other ∷ []
 abbrev pub filled : List Store → List (ℕ × Option Store)
 filled pieces = map (λ p. (least_node p.lists, Some p)) pieces
 
--- the homes of the ends of an arc
-abbrev pub homes_needed : List ℕ → Ends → List ℕ
-homes_needed homes (Link from to gain) = home_at homes from ∷ home_at homes to ∷ []
-homes_needed homes (Drain at) = home_at homes at ∷ []
-homes_needed homes (Feed at) = home_at homes at ∷ []
-
 -- ---- what fits into it
-
--- the ends of an arc are nodes that have a home, with a piece in its slot
-pub record HasHome (slots : List (Option Store)) (homes : List ℕ) (v : ℕ) : Type 0 where
-  pub node : v < length homes
-  pub slot : home_at homes v < length slots
-  pub piece : Store
-  pub there : slot_at slots (home_at homes v) ≡ Some piece
-
-abbrev pub HaveHomes : List (Option Store) → List ℕ → Ends → Type 0
-HaveHomes slots homes (Link from to gain) = HasHome slots homes from × HasHome slots homes to
-HaveHomes slots homes (Drain at) = HasHome slots homes at
-HaveHomes slots homes (Feed at) = HasHome slots homes at
 
 -- the numbers of a piece lie within the slots and the tables
 pub record LiesWithin (f : Forest) (p : PieceLists) : Type 0 where
   pub some : 0 < length p.nodes
   pub slot : least_node p < length f.slots.items
-  pub homes : All (λ n. n.0 < length f.homes.items) p.nodes
   pub potentials : All (λ n. n.0 < length f.potentials.items) p.nodes
   pub flows : All (λ b. b.0 < length f.flows.items) p.basics

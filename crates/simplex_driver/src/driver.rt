@@ -106,13 +106,14 @@ pub(crate) fn run<G: Gate>(
         }
         let phase = phase_of(turned);
         let spent = entries.len() == budget as usize;
-        match forest.find(rt, alloc, full, phase, spent, from) {
+        let homes = forest.homes(alloc)?;
+        match forest.find(rt, alloc, full, phase, &homes, spent, from) {
             Found::Pivot {
                 entry,
                 change,
                 list,
             } => {
-                forest.pivot(full, phase, entry, change);
+                forest.pivot(full, phase, &homes, entry, change);
                 from = after(entry.enter, real);
                 entries.push(entry)?;
                 let left = budget - entries.len() as u32;

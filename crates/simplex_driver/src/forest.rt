@@ -5,33 +5,21 @@ ghost use Rattle.std.specs.List.{All, flat_map};
 ghost use Rattle.np_model.specs.declared.log.Mark.TheVariants.{Basic};
 ghost use Rattle.np_model.specs.Basis.Needed.{lists_held};
 ghost use Rattle.np_model.specs.Basis.Pieces.{least_node};
-ghost use Rattle.simplex_driver.specs.Store.{slot_at, home_at, written, homes_of, potentials_of, flows_written, emptied, filled, homes_needed, stores_in, HasHome, HaveHomes, LiesWithin};
+ghost use Rattle.simplex_driver.specs.Homes.{home_at, homes_needed, HasHome, HaveHomes};
+ghost use Rattle.simplex_driver.specs.Store.{slot_at, written, potentials_of, flows_written, emptied, filled, stores_in, LiesWithin};
 
 use np_frac::Frac;
 use np_model::{Ends, Entry, Hands, Mark, Piece};
 use quasi_tree::Quasi;
 
-/// The pieces of a state, each in the slot of its least node, for each node the least node of its piece, and the state as tables:
-/// potentials by node, flows and marks by arc, the artificial ones behind the real ones.
+/// The pieces of a state, each in the slot of its least node, and the state as tables: potentials by node, flows and marks by arc, the
+/// artificial ones behind the real ones.
 #[derive(Drop)]
 pub(crate) struct Forest {
     pub slots: Vec<Option<Quasi>>,
-    pub homes: Vec<u32>,
     pub potentials: Vec<Frac>,
     pub flows: Vec<Frac>,
     pub marks: Vec<Mark>,
-}
-
-// Writes where the nodes of the piece are at home.
-fn write_homes(homes: &mut [u32], piece: &Quasi)
-    requires some { 0 < length piece.now.lists.nodes }
-    requires within { All (λ n. n.0 < length homes.old) piece.now.lists.nodes }
-    ensures { homes.new ≡ written (homes_of piece.now.lists) homes.old }
-{
-    let least = piece.least();
-    for (node, _) in &piece.lists().nodes.items {
-        homes[*node as usize] = least;
-    }
 }
 
 // Writes the potentials of the nodes of the piece.
@@ -55,12 +43,12 @@ fn write_flows(flows: &mut [Frac], piece: &Quasi)
 }
 
 impl Forest {
-    /// The piece of a node.
-    pub(crate) fn piece_of(&self, node: u32) -> &Quasi
-        requires { HasHome self.now.slots.items self.now.homes.items node }
-        ensures { Some result.now ≡ slot_at self.now.slots.items (home_at self.now.homes.items node) }
+    /// The piece of a node, by the homes of all nodes.
+    pub(crate) fn piece_of(&self, homes: &[u32], node: u32) -> &Quasi
+        requires { HasHome self.now.slots.items homes.now node }
+        ensures { Some result.now ≡ slot_at self.now.slots.items (home_at homes.now node) }
     {
-        let home = self.homes[node as usize] as usize;
+        let home = homes[node as usize] as usize;
         match &self.slots[home] {
             Some(piece) => piece,
             None => unreachable!(),
@@ -68,33 +56,31 @@ impl Forest {
     }
 
     // Empties the slot of the piece of a node.
-    fn empty(&mut self, node: u32)
-        requires node { node < length self.old.homes.items }
-        requires slot { home_at self.old.homes.items node < length self.old.slots.items }
-        ensures slots { self.new.slots.items ≡ slice_set self.old.slots.items (home_at self.old.homes.items node) None }
-        ensures homes { self.new.homes.items ≡ self.old.homes.items }
+    fn empty(&mut self, homes: &[u32], node: u32)
+        requires node { node < length homes.now }
+        requires slot { home_at homes.now node < length self.old.slots.items }
+        ensures slots { self.new.slots.items ≡ slice_set self.old.slots.items (home_at homes.now node) None }
         ensures potentials { self.new.potentials.items ≡ self.old.potentials.items }
         ensures flows { self.new.flows.items ≡ self.old.flows.items }
         ensures marks { self.new.marks.items ≡ self.old.marks.items }
     {
-        let home = self.homes[node as usize] as usize;
+        let home = homes[node as usize] as usize;
         self.slots[home] = None;
     }
 
-    /// Empties the slots of the pieces that an arc needs.
-    pub(crate) fn vacate(&mut self, ends: Ends)
-        requires { HaveHomes self.old.slots.items self.old.homes.items ends }
-        ensures slots { self.new.slots.items ≡ written (emptied (homes_needed self.old.homes.items ends)) self.old.slots.items }
-        ensures homes { self.new.homes.items ≡ self.old.homes.items }
+    /// Empties the slots of the pieces that an arc needs, by the homes of all nodes.
+    pub(crate) fn vacate(&mut self, homes: &[u32], ends: Ends)
+        requires { HaveHomes self.old.slots.items homes.now ends }
+        ensures slots { self.new.slots.items ≡ written (emptied (homes_needed homes.now ends)) self.old.slots.items }
         ensures potentials { self.new.potentials.items ≡ self.old.potentials.items }
         ensures flows { self.new.flows.items ≡ self.old.flows.items }
         ensures marks { self.new.marks.items ≡ self.old.marks.items }
     {
         match ends {
-            Ends::Drain(node) | Ends::Feed(node) => self.empty(node),
+            Ends::Drain(node) | Ends::Feed(node) => self.empty(homes, node),
             Ends::Link { from, to, .. } => {
-                self.empty(from);
-                self.empty(to);
+                self.empty(homes, from);
+                self.empty(homes, to);
             }
         }
     }
@@ -103,12 +89,10 @@ impl Forest {
     pub(crate) fn house(&mut self, piece: Quasi)
         requires { LiesWithin self.old piece.lists }
         ensures slots { self.new.slots.items ≡ slice_set self.old.slots.items (least_node piece.lists) (Some piece) }
-        ensures homes { self.new.homes.items ≡ written (homes_of piece.lists) self.old.homes.items }
         ensures potentials { self.new.potentials.items ≡ written (potentials_of piece.lists) self.old.potentials.items }
         ensures flows { self.new.flows.items ≡ written (flows_written piece.lists) self.old.flows.items }
         ensures marks { self.new.marks.items ≡ self.old.marks.items }
     {
-        write_homes(&mut self.homes, &piece);
         write_potentials(&mut self.potentials, &piece);
         write_flows(&mut self.flows, &piece);
         let home = piece.least() as usize;
@@ -119,7 +103,6 @@ impl Forest {
     pub(crate) fn house_all(&mut self, pieces: Hands<Quasi>)
         requires { All (LiesWithin self.old) (lists_held (λ s. s.lists) pieces) }
         ensures slots { self.new.slots.items ≡ written (filled (stores_in pieces)) self.old.slots.items }
-        ensures homes { self.new.homes.items ≡ written (flat_map homes_of (lists_held (λ s. s.lists) pieces)) self.old.homes.items }
         ensures potentials { self.new.potentials.items ≡ written (flat_map potentials_of (lists_held (λ s. s.lists) pieces)) self.old.potentials.items }
         ensures flows { self.new.flows.items ≡ written (flat_map flows_written (lists_held (λ s. s.lists) pieces)) self.old.flows.items }
         ensures marks { self.new.marks.items ≡ self.old.marks.items }
@@ -139,7 +122,6 @@ impl Forest {
         requires enter { entry.enter < length self.old.marks.items }
         requires leave { entry.leave < length self.old.marks.items }
         ensures slots { self.new.slots.items ≡ self.old.slots.items }
-        ensures homes { self.new.homes.items ≡ self.old.homes.items }
         ensures potentials { self.new.potentials.items ≡ self.old.potentials.items }
         ensures flows { self.new.flows.items ≡ slice_set self.old.flows.items entry.leave bound }
         ensures marks { self.new.marks.items ≡ slice_set (slice_set self.old.marks.items entry.enter Basic) entry.leave entry.leave_at }

@@ -4,6 +4,7 @@
 mod attempt;
 mod driver;
 mod forest;
+mod homes;
 mod opening;
 mod picking;
 mod ray;

@@ -104,17 +104,6 @@ fn singles(
     Ok(slots)
 }
 
-// Each node is at home in its own slot.
-fn own_homes(alloc: Global, nodes: u32) -> Result<Vec<u32>, Memory>
-    ensures { IfOk result (λ homes. homes.items ≡ range_with_len 0 nodes) }
-{
-    let mut homes = Vec::with_capacity(alloc, nodes as usize)?;
-    for node in 0..nodes {
-        homes.push(node)?;
-    }
-    Ok(homes)
-}
-
 // The potential of each node, by its artificial arc.
 fn potentials_by(alloc: Global, artificial: &[Ends]) -> Result<Vec<Frac>, Memory>
     ensures { IfOk result (λ potentials. potentials.items ≡ map end_potential artificial.now) }
@@ -160,7 +149,6 @@ impl Forest {
         let lists = marks_by_node(alloc, &start.full.net)?;
         Ok(Forest {
             slots: singles(alloc, start, lists)?,
-            homes: own_homes(alloc, nodes as u32)?,
             potentials: potentials_by(alloc, start.full.artificial.as_slice())?,
             flows: Vec::from_slice(alloc, start.flows.as_slice())?,
             marks: start_marks(alloc, real, nodes)?,

@@ -285,9 +285,10 @@ fn pivoted(
     if arc as usize >= full.net.arcs.items.len() {
         return Err(Fail::from("no arc"));
     }
-    match forest.attempt(alloc, full, Phase::One, arc) {
+    let homes = forest.homes(alloc)?;
+    match forest.attempt(alloc, full, Phase::One, &homes, arc) {
         Prepared::Ready { entry, change } => {
-            forest.pivot(full, Phase::One, entry, change);
+            forest.pivot(full, Phase::One, &homes, entry, change);
             entries.push(entry)?;
             Ok(())
         }

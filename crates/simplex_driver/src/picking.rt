@@ -5,6 +5,7 @@ ghost use Rattle.gain_graphs.specs.Arcs.{IsIn};
 ghost use Rattle.np_model.specs.Basis.Moves.{IsEligible};
 ghost use Rattle.np_model.specs.Basis.Phases.{phase_net, real_arcs};
 ghost use Rattle.np_model.specs.Basis.States.{values_of, IsState};
+ghost use Rattle.simplex_driver.specs.Homes.{AreHomes};
 ghost use Rattle.simplex_driver.specs.Store.{state_of, IsKept};
 ghost use Rattle.simplex_driver.specs.Picks.{IsPick, first_or};
 
@@ -37,9 +38,17 @@ fn first_of(found: Option<Overflow>, now: Overflow) -> Overflow
 }
 
 impl Forest {
-    /// Tries the listed arcs in order until a pivot can be made or a ray is found.
-    pub(crate) fn pick(&self, alloc: Global, full: &FullNet, phase: Phase, list: &[u32]) -> Picked
+    /// Tries the listed arcs in order until a pivot can be made or a ray is found, by the homes of all nodes.
+    pub(crate) fn pick(
+        &self,
+        alloc: Global,
+        full: &FullNet,
+        phase: Phase,
+        homes: &[u32],
+        list: &[u32],
+    ) -> Picked
         requires kept { IsKept (phase_net phase full.now) self.now }
+        requires homes { AreHomes self.now.slots.items homes.now }
         requires state { IsState (phase_net phase full.now) (state_of self.now) }
         requires some { 0 < length list.now }
         requires listed { (a : ℕ) → IsIn a list.now → IsEligible (phase_net phase full.now) (real_arcs full.now) (values_of (state_of self.now)) a }
@@ -47,7 +56,7 @@ impl Forest {
     {
         let mut found = None;
         for arc in list {
-            match self.attempt(alloc, full, phase, *arc) {
+            match self.attempt(alloc, full, phase, homes, *arc) {
                 Prepared::Ready { entry, change } => return Picked::Ready { entry, change },
                 Prepared::NotEligible => unreachable!(),
                 Prepared::Ray(direction) => return Picked::Ray(direction),

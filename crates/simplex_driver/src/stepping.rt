@@ -3,6 +3,7 @@
 ghost use Rattle.std.specs.Prelude.{◌≡◌, ◌<◌, ◌≤◌, ◌⊎◌, MatchResult, length, take};
 ghost use Rattle.np_model.specs.Basis.Phases.{phase_net, real_arcs};
 ghost use Rattle.np_model.specs.Basis.States.{values_of, IsState};
+ghost use Rattle.simplex_driver.specs.Homes.{AreHomes};
 ghost use Rattle.simplex_driver.specs.Store.{state_of, IsKept};
 ghost use Rattle.simplex_driver.specs.Found.{AreListed, IsPriceCause, IsFound};
 
@@ -67,17 +68,20 @@ impl Forest {
         candidates(rt, alloc, full, phase, &self.potentials, marks, from)
     }
 
-    /// What the next step is: prices all arcs from the cursor on, and tries those that may enter unless the budget is spent.
+    /// What the next step is: prices all arcs from the cursor on, and tries those that may enter unless the budget is spent, by the homes of
+    /// all nodes.
     pub(crate) fn find(
         &self,
         rt: &(impl Threads + Sync),
         alloc: Global,
         full: &FullNet,
         phase: Phase,
+        homes: &[u32],
         spent: bool,
         from: u32,
     ) -> Found
         requires kept { IsKept (phase_net phase full.now) self.now }
+        requires homes { AreHomes self.now.slots.items homes.now }
         requires state { IsState (phase_net phase full.now) (state_of self.now) }
         requires begins { (from < real_arcs full.now) ⊎ (real_arcs full.now ≡ 0) }
         ensures { IsFound (phase_net phase full.now) (real_arcs full.now) (values_of (state_of self.now)) spent result }
@@ -93,7 +97,7 @@ impl Forest {
         if spent {
             return Found::Spent(list.items[0]);
         }
-        match self.pick(alloc, full, phase, list.items.as_slice()) {
+        match self.pick(alloc, full, phase, homes, list.items.as_slice()) {
             Picked::Ready { entry, change } => Found::Pivot {
                 entry,
                 change,

@@ -1,7 +1,7 @@
 use Rattle.std.proofs.Common.{ℕ, arith}
 use Rattle.np_frac.specs.Ratio.{Ratio}
 use Rattle.simplex_driver.proofs.Tables.{written_more}
-use Rattle.simplex_driver.proofs.forest.write_homes.Goals as goal
+use Rattle.simplex_driver.proofs.homes.write_homes.Goals as goal
 
 pub loop-node-preserved : goal.loop-node-preserved
 loop-node-preserved c =
