@@ -4,6 +4,7 @@ mod Scenes
 mod Adding
 mod Balances
 mod Inward
+mod Still
 mod Ending
 mod Following
 mod Mixing

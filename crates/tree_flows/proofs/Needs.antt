@@ -1,12 +1,11 @@
 -- What the calls on a piece of a network need.
 use Rattle.std.specs.Prelude.{◌≡◌, ◌≢◌, ◌<◌, ℕ, zero, suc, List, [], ◌∷◌, length, slice_index, slice_index_or, Ok, pos}
 use Rattle.std.specs.List.{All}
-use Rattle.std.proofs.Common.{refl, sym, subst, ◌∙◌, inl, inr, arith}
+use Rattle.std.proofs.Common.{sym, subst, ◌∙◌, arith}
 use Rattle.gain_graphs.specs.Arcs.{IsIn}
 use Rattle.gain_graphs.specs.Cycles.{IsNoLoop, IsWay}
 use Rattle.gain_graphs.specs.QuasiTrees.{LiesIn}
 use Rattle.gain_graphs.proofs.Lists.{in_map, length_map, in_list}
-use Rattle.np_frac.specs.Ratio as ratio
 use Rattle.np_frac.specs.Ratio.{Ratio, zero_ratio}
 use Rattle.np_frac.proofs.Parts.{num_apart}
 use Rattle.np_model.specs.declared.arc.Ends.{Ends}
@@ -30,8 +29,9 @@ use Rattle.tree_search.specs.Search.{IsSearch}
 use Rattle.tree_search.specs.Finding.{first_node, way_of, starts_of, IsFound, IsPlaced}
 use Rattle.tree_search.proofs.Placed.{joints_below, placed}
 use Rattle.tree_search.proofs.Trees.{ends_is}
-use Rattle.tree_flows.specs.Along.{HaveGains, IsWithin, last_of, divisor_of}
+use Rattle.tree_flows.specs.Along.{HaveGains, IsWithin, AreJoined, last_of, divisor_of}
 use Rattle.tree_flows.specs.Walks.{CanClose, HasDivisor}
+use Rattle.tree_flows.proofs.Balances.{step_joins}
 use Rattle.tree_flows.proofs.Mixing as mixing
 use Rattle.tree_flows.proofs.Walked.{all_places}
 
@@ -75,6 +75,10 @@ module _ (net : Network) (piece : PieceLists) (sound : HasSoundArcs net) (h : Is
     pub steps_within : (extra : ExtraArc) (n : ℕ) (search : Search) → IsSearch joints n (starts_of joints extra) search → All (λ t. IsWithin piece.nodes piece.basics t) search.steps.items
     steps_within extra n search is k d l =
         to_within (slice_index_or search.steps.items k d) (placed (nodes_in piece) piece.basics joints are search.steps.items (starts_of joints extra) is.goes (slice_index_or search.steps.items k d) (in_list search.steps.items k d l))
+
+    pub steps_joined : (extra : ExtraArc) (n : ℕ) (search : Search) → IsSearch joints n (starts_of joints extra) search → AreJoined joints search.steps.items
+    steps_joined extra n search is k d l =
+        step_joins joints (starts_of joints extra) search.steps.items is.goes (slice_index_or search.steps.items k d) (in_list search.steps.items k d l)
 
     -- the divisor of its cycle is not 0
     round_apart : (first : Step) (rest : List Step) → ((z : Step) → IsIn z (first ∷ rest) → IsWithin piece.nodes piece.basics z)

@@ -33,6 +33,13 @@ beyond [] a l = refl
 beyond (x ∷ xs) zero l = absurd (omega arith)
 beyond (x ∷ xs) (suc a) l = beyond xs a (omega arith)
 
+-- amounts of 0 on all places are 0 everywhere
+pub zeros_at : (xs : List Ratio) (n : ℕ) → length xs ≡ n → ((a : ℕ) → a < n → at xs a ≡ zero_ratio) → (a : ℕ) → at xs a ≡ zero_ratio
+zeros_at xs n long h a = elim (cases a n) [ inl l ↦ h a l | inr l ↦ beyond xs a (subst (λ m. m ≤ a) (sym long) l) ]
+  where
+    cases : (i j : ℕ) → (i < j) ⊎ (j ≤ i)
+    cases i j = grind arith
+
 pub all_places : {A : Type 0} (P : A → Type 0) (l : List A) → All P l → (z : A) → IsIn z l → P z
 all_places P [] h z i = absurd i
 all_places P (y ∷ l) h z (inl e) = subst P (sym e) (h zero y (omega arith))
@@ -40,10 +47,7 @@ all_places P (y ∷ l) h z (inr i) = all_places P l (λ j d m. h (suc j) d (omeg
 
 module _ (s : Scene) where
   nothing_made : (zeros : List Ratio) → length zeros ≡ length s.piece.basics → ((a : ℕ) → a < length s.piece.basics → at zeros a ≡ zero_ratio) → inward.AreMade s [] zeros
-  nothing_made zeros long h = record { long = long; known = λ t i. absurd i; still = λ a _. elim (cases a (length s.piece.basics)) [ inl l ↦ h a l | inr l ↦ beyond zeros a (subst (λ n. n ≤ a) (sym long) l) ] }
-    where
-      cases : (i j : ℕ) → (i < j) ⊎ (j ≤ i)
-      cases i j = grind arith
+  nothing_made zeros long h = record { long = long; known = λ t i. absurd i; still = λ a _. zeros_at zeros (length s.piece.basics) long h a }
 
   -- the extra arc, once the amounts on all links off it are made
   module _ (amounts : List Ratio) (made : inward.AreMade s (scenes.steps s) amounts) (done : (t : Step) → IsIn t (scenes.steps s) → inward.IsDone s t)

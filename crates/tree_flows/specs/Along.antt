@@ -1,5 +1,5 @@
 -- The operations of the rows of directions at the nodes of a piece, and inwards along its steps. Nodes and basic arcs are named by their places.
-use Rattle.std.specs.Prelude.{◌<◌, ◌==◌, nat_lt, nat_le, ℕ, suc, Bool, true, false, List, [], ◌∷◌, length, drop, slice_index, slice_set, Result, Ok, Err, if◌then◌else◌}
+use Rattle.std.specs.Prelude.{◌≡◌, ◌≢◌, ◌<◌, ◌==◌, nat_lt, nat_le, ℕ, suc, Bool, true, false, List, [], ◌∷◌, length, drop, slice_index, slice_index_or, slice_set, Result, Ok, Err, if◌then◌else◌}
 use Rattle.std.specs.List.{All}
 use Rattle.np_frac.specs.Ratio.{Ratio, zero_ratio, one_ratio, negated}
 use Rattle.np_frac.specs.Order.{ratio_eq}
@@ -15,7 +15,11 @@ use Rattle.np_model.specs.Basis.Starts.{touches}
 use Rattle.np_model.specs.Rows.Directions.{term, turned, with_first, mixed}
 use Rattle.tree_search.specs.declared.piece.Step.{Step}
 use Rattle.tree_search.specs.declared.piece.Joint.{Joint}
-use Rattle.tree_search.specs.Places.{numbers_of_nodes, ends_by_place, HasGain}
+use Rattle.tree_search.specs.Places.{numbers_of_nodes, ends_by_place, loose, HasGain}
+use Rattle.tree_search.specs.Search.{JoinsAt}
+
+abbrev pub is_zero : Ratio → Bool
+is_zero amount = ratio_eq amount zero_ratio
 
 -- ---- what the operations need
 
@@ -85,6 +89,25 @@ sum_of nodes basics joints before ends amount amounts place =
     sum_part basics amounts before true node (arcs_from joints place 0) zero_ratio ▷ add_entering ends amount node
     ▷ sum_part basics amounts before false node (arcs_from joints place 0)
 
+-- ---- where nothing comes
+
+-- the entering arc ends at the node, or it is marked
+abbrev pub may_come : List (ℕ × Ratio) → Ends → List Bool → ℕ → Bool
+may_come nodes ends reached place = if slice_index_or reached place true then true else touches ends (slice_index (numbers_of_nodes nodes) place)
+
+-- the amounts are 0 on the arcs at each node that is not marked
+abbrev pub AreStill : List Joint → List Ratio → List Bool → Type 0
+AreStill joints amounts reached = (a v : ℕ) → has_end (slice_index_or joints a loose) v ≡ true → slice_index_or reached v true ≡ false → at amounts a ≡ zero_ratio
+
+-- the arc of each step joins its nodes
+abbrev pub AreJoined : List Joint → List Step → Type 0
+AreJoined joints steps = All (λ s. JoinsAt joints s.arc s.near s.far) steps
+
+-- a node that is marked in neither list, or only now, as an end of the step, where its amount is not 0
+abbrev pub MarksStep : List Bool → Step → Ratio → List Bool → Type 0
+MarksStep reached s amount marked =
+    (v : ℕ) → slice_index_or marked v true ≡ false → (slice_index_or reached v true ≡ false) × (is_zero amount ≡ false → (v ≢ s.near) × (v ≢ s.far))
+
 -- ---- inwards along steps
 
 -- the amount on the arc of a step
@@ -105,9 +128,6 @@ gather_sums nodes basics joints before ends amount amounts (s ∷ steps) sums =
     sum_of nodes basics joints before ends amount amounts s.far ▷ λ y. gather_sums nodes basics joints before ends amount amounts steps (slice_set sums s.far y)
 
 -- ---- round a cycle, from step to step
-
-abbrev pub is_zero : Ratio → Bool
-is_zero amount = ratio_eq amount zero_ratio
 
 -- the sums at the far nodes of the steps are all 0
 abbrev pub are_zero : List Ratio → List Step → Bool

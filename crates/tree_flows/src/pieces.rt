@@ -32,6 +32,7 @@ fn piece_amounts(
     entering: &Entering,
     amounts: Vec<Frac>,
     sums: Vec<Frac>,
+    reached: Vec<bool>,
 ) -> Result<Vec<Frac>, Overflow>
     requires few { length nodes.now < 2 ^ 32 }
     requires in_net { (net : Network) × (marks : List (ℕ × TheMark)) × HasSoundArcs net × IsInNet net (piece_of nodes.now basics.now marks) }
@@ -39,6 +40,7 @@ fn piece_amounts(
     requires one_each { length amounts.items ≡ length basics.now }
     requires zeros { (a : ℕ) → a < length basics.now → at amounts.items a ≡ zero_ratio }
     requires each_node { length sums.items ≡ length nodes.now }
+    requires one_mark { length reached.items ≡ length nodes.now }
     ensures kept { IfOk result (λ found. length found.items ≡ length basics.now) }
     ensures answer { (net : Network) (marks : List (ℕ × TheMark)) (d : ℕ → Ratio) → HasSoundArcs net → IsPulled net (piece_of nodes.now basics.now marks) entering.now d
         → MatchResult result (λ found. AreAmounts net (piece_of nodes.now basics.now marks) entering.now d found.items) (IsOverflow net (piece_of nodes.now basics.now marks) entering.now d) }
@@ -57,7 +59,19 @@ fn piece_amounts(
         &layout.extra,
         amounts,
         sums,
+        reached,
     )
+}
+
+// No marks on so many nodes.
+fn no_marks(alloc: Global, count: usize) -> Result<Vec<bool>, Memory>
+    ensures { IfOk result (λ list. length list.items ≡ count) }
+{
+    let mut list = Vec::with_capacity(alloc, count)?;
+    for _ in 0..count {
+        list.push(false)?;
+    }
+    Ok(list)
 }
 
 // The entering arc alone, with room for so many arcs more: nothing that is put behind it takes memory.
@@ -88,8 +102,17 @@ fn steps_on_one(
     let layout = layout_of(alloc, nodes, basics, entering.arc)?;
     let zero_amounts = zeros(alloc, basics.len())?;
     let zero_sums = zeros(alloc, nodes.len())?;
+    let marks = no_marks(alloc, nodes.len())?;
     let steps = begun(alloc, entering, basics.len())?;
-    match piece_amounts(nodes, basics, &layout, entering, zero_amounts, zero_sums) {
+    match piece_amounts(
+        nodes,
+        basics,
+        &layout,
+        entering,
+        zero_amounts,
+        zero_sums,
+        marks,
+    ) {
         Ok(amounts) => {
             let found = with_moving(basics, amounts.as_slice(), steps)?;
             Ok(found)
@@ -120,10 +143,20 @@ fn steps_on_two(
     let other_layout = layout_of(alloc, other_nodes, other_basics, entering.arc)?;
     let zero_amounts = zeros(alloc, basics.len())?;
     let zero_sums = zeros(alloc, nodes.len())?;
+    let marks = no_marks(alloc, nodes.len())?;
     let other_zero_amounts = zeros(alloc, other_basics.len())?;
     let other_zero_sums = zeros(alloc, other_nodes.len())?;
+    let other_marks = no_marks(alloc, other_nodes.len())?;
     let steps = begun(alloc, entering, basics.len() + other_basics.len())?;
-    let amounts = match piece_amounts(nodes, basics, &layout, entering, zero_amounts, zero_sums) {
+    let amounts = match piece_amounts(
+        nodes,
+        basics,
+        &layout,
+        entering,
+        zero_amounts,
+        zero_sums,
+        marks,
+    ) {
         Ok(amounts) => amounts,
         Err(overflow) => return Err(DirRefusal::Past(overflow)),
     };
@@ -134,6 +167,7 @@ fn steps_on_two(
         entering,
         other_zero_amounts,
         other_zero_sums,
+        other_marks,
     ) {
         Ok(amounts) => amounts,
         Err(overflow) => return Err(DirRefusal::Past(overflow)),

@@ -32,7 +32,7 @@ pub(crate) struct Rows<'a> {
 impl<'a> Rows<'a> {
     ghost use Rattle.np_frac.specs.Ratio.{zero_ratio};
     ghost use Rattle.tree_search.specs.Search.{IsIncidence};
-    ghost use Rattle.tree_flows.specs.Along.{in_part, add_place, add_entering, arcs_from, sum_part, sum_of};
+    ghost use Rattle.tree_flows.specs.Along.{may_come, in_part, add_place, add_entering, arcs_from, sum_part, sum_of};
 
     // Whether a basic arc is one of those before the entering arc, or one of those after it.
     fn is_in_part(&self, early: bool, arc: u32) -> bool
@@ -104,6 +104,15 @@ impl<'a> Rows<'a> {
             arc = self.incidence.next(self.joints, arc, place);
         }
         Ok(sum)
+    }
+
+    // Whether something may come to the node: over the entering arc, or over a basic arc whose amount is not 0.
+    pub(crate) fn is_reached(&self, reached: &[bool], place: u32) -> bool
+        requires inside { place < length self.now.nodes.now }
+        requires one_each { length reached.now ≡ length self.now.nodes.now }
+        ensures { result ≡ may_come self.now.nodes.now self.now.entering.now.ends reached.now place }
+    {
+        reached[place as usize] || touches(self.entering.ends, node_of(self.nodes, place))
     }
 
     // The sum of the terms at a node, in ascending number of arc.

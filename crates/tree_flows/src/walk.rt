@@ -4,7 +4,7 @@ ghost use Rattle.std.specs.Prelude.{◌≡◌, ◌≢◌, ◌<◌, ◌^◌, ℕ,
 ghost use Rattle.std.specs.List.{All};
 ghost use Rattle.tree_search.specs.Search.{IsIncidence};
 ghost use Rattle.tree_search.specs.Places.{loose};
-ghost use Rattle.tree_flows.specs.Along.{HaveGains, IsWithin};
+ghost use Rattle.tree_flows.specs.Along.{HaveGains, IsWithin, AreJoined, AreStill};
 ghost use Rattle.tree_flows.specs.Walks.{HasDivisor, close_end, close_round, close_extra, walk_in, CanClose};
 
 use crate::cycle::{Round, are_nothing, turn_amounts};
@@ -106,6 +106,7 @@ pub(crate) fn amounts_on(
     extra: &ExtraArc,
     amounts: Vec<Frac>,
     sums: Vec<Frac>,
+    reached: Vec<bool>,
 ) -> Result<Vec<Frac>, Overflow>
     requires lists { IsIncidence rows.now.joints.now (length rows.now.nodes.now) rows.now.incidence.now }
     requires long { length rows.now.joints.now ≡ length rows.now.basics.now }
@@ -114,12 +115,15 @@ pub(crate) fn amounts_on(
     requires few { length rows.now.basics.now < 2 ^ 32 }
     requires gains { HaveGains rows.now.basics.now }
     requires within { All (λ step. IsWithin rows.now.nodes.now rows.now.basics.now step) steps.now }
+    requires joined { AreJoined rows.now.joints.now steps.now }
+    requires one_mark { length reached.items ≡ length rows.now.nodes.now }
+    requires still { AreStill rows.now.joints.now amounts.items reached.items }
     requires closes { CanClose rows.now.nodes.now rows.now.basics.now rows.now.joints.now extra.now }
     ensures kept { IfOk result (λ found. length found.items ≡ length rows.now.basics.now) }
     ensures made { let answer = walk_in rows.now.nodes.now rows.now.basics.now rows.now.joints.now rows.now.before rows.now.entering.now steps.now extra.now sums.items amounts.items in
         MatchResult result (λ found. answer ≡ Ok found.items) (λ overflow. answer ≡ Err overflow) }
 {
-    match gather_amounts(rows, steps, amounts) {
+    match gather_amounts(rows, steps, amounts, reached) {
         Ok(found) => extra_amounts(rows, extra, found, sums),
         Err(past) => Err(at_arc(rows.entering.arc, Row::A4, past)),
     }

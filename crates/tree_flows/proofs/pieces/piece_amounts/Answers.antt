@@ -4,6 +4,7 @@ use Rattle.tree_search.specs.declared.piece.Step.{Step}
 use Rattle.tree_flows.specs.Along.{IsWithin}
 use Rattle.tree_flows.specs.Walks.{CanClose}
 use Rattle.tree_flows.specs.Answers.{piece_of, AreAmounts, IsOverflow}
+use Rattle.tree_flows.proofs.Walked.{zeros_at}
 use Rattle.tree_flows.proofs.Needs as needs
 use Rattle.tree_flows.proofs.Calls.{carried, piece_answer}
 use Rattle.tree_flows.proofs.pieces.piece_amounts.Goals as goal
@@ -22,6 +23,15 @@ amounts_on-requires-clause-closes c =
     subst (λ j. CanClose c.args.nodes.now c.args.basics.now j c.args.layout.now.extra) (sym c.as_slice.ensures.value)
     (needs.closes c.requires.in_net.0 (piece_of c.args.nodes.now c.args.basics.now c.requires.in_net.1) c.requires.in_net.2 c.requires.in_net.3 c.args.layout.now.joints.items c.requires.laid_out.joints
     c.args.layout.now.extra c.requires.laid_out.extra)
+
+pub amounts_on-requires-clause-joined : goal.amounts_on-requires-clause-joined
+amounts_on-requires-clause-joined c =
+    rw (c.as_slice.ensures.value, c.as_slice-2.ensures.value)
+    (needs.steps_joined c.requires.in_net.0 (piece_of c.args.nodes.now c.args.basics.now c.requires.in_net.1) c.requires.in_net.2 c.requires.in_net.3 c.args.layout.now.joints.items c.requires.laid_out.joints
+    c.args.layout.now.extra _ c.args.layout.now.search c.requires.laid_out.search)
+
+pub amounts_on-requires-clause-still : goal.amounts_on-requires-clause-still
+amounts_on-requires-clause-still c = λ a v h e. zeros_at c.args.amounts.items _ c.requires.one_each c.requires.zeros a
 
 pub returns-clause-answer : goal.returns-clause-answer
 returns-clause-answer c = λ net marks d sound pulled.
