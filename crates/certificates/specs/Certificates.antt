@@ -29,9 +29,13 @@ use Rattle.cert_checker.specs.declared.answer.CheckRefusal.TheVariants as refusa
 use Rattle.certificates.specs.declared.certifying.TextRefusal.{TextRefusal}
 use Rattle.certificates.specs.declared.certifying.TextRefusal.TheVariants as text
 
--- a run of at most a million pivots over the expanded network of the scheme has ended in it
+-- a run over the expanded network of the scheme has ended in it
 abbrev pub HasEnded : Scheme → Outcome → Type 0
-HasEnded scheme outcome = (budget : ℕ) × (budget ≤ 1000000) × IsEnded (net_of scheme) budget outcome
+HasEnded scheme outcome = (budget : ℕ) × IsEnded (net_of scheme) budget outcome
+
+-- one with a budget of at most so many pivots has
+abbrev pub HasEndedWithin : ℕ → Scheme → Outcome → Type 0
+HasEndedWithin most scheme outcome = (budget : ℕ) × (budget ≤ most) × IsEnded (net_of scheme) budget outcome
 
 -- ---- the parts of its plan
 
@@ -132,6 +136,10 @@ UnboundedFalls =
     (scheme : Scheme) (flows ray : List Ratio) (log : Log) → HasEnded scheme (outcome.Unbounded flows ray log) →
     FallsAlong scheme (gathered_plan scheme flows) (gathered_plan scheme ray)
 
--- its parts and its log fit a plan
+-- its parts fit a plan
 abbrev pub EndedPartsFit : Type 0
-EndedPartsFit = (scheme : Scheme) (o : Outcome) → HasEnded scheme o → PartsFit (net_of scheme) o × LogFits (log_of o)
+EndedPartsFit = (scheme : Scheme) (o : Outcome) → HasEnded scheme o → PartsFit (net_of scheme) o
+
+-- and so does its log, where the budget is at most a million pivots
+abbrev pub EndedLogFits : Type 0
+EndedLogFits = (scheme : Scheme) (o : Outcome) → HasEndedWithin 1000000 scheme o → LogFits (log_of o)

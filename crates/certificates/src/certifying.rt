@@ -1,12 +1,12 @@
 //! The plan of what a run has ended in.
 
-ghost use Rattle.std.specs.Prelude.{◌≡◌, IfOk, length};
+ghost use Rattle.std.specs.Prelude.{◌≡◌, [], None, IfOk, length};
 ghost use Rattle.np_model.specs.declared.plan.Verdict.TheVariants as verdict;
 ghost use Rattle.np_model.specs.Scheme.Fits.{IsShortNumber, LogFits, PlaceFits, PlanFits};
 ghost use Rattle.np_model.specs.Scheme.Plans.{staged, IsFeasiblePlan, PricesShow, PricesForbid, FallsAlong};
 ghost use Rattle.convex_arcs.specs.Gathered.{gathered, amounts_of};
 ghost use Rattle.convex_arcs.specs.Segments.{flat_arcs};
-ghost use Rattle.certificates.specs.Certificates.{HasEnded, optimal_plan, infeasible_plan, unbounded_plan, budget_plan, overflow_plan, total_overflow, unless_walk_overflows, certificate, Certifies, IsAccepted};
+ghost use Rattle.certificates.specs.Certificates.{HasEnded, HasEndedWithin, optimal_plan, infeasible_plan, unbounded_plan, budget_plan, overflow_plan, total_overflow, unless_walk_overflows, certificate, Certifies, IsAccepted};
 ghost use Rattle.certificates.specs.Steps.Certifying.{IsNoReject, told_of_walk, told_of_gathering, Gathered};
 
 use crate::amounts::no_fracs;
@@ -121,10 +121,9 @@ fn optimal(
 ) -> Result<Plan, TextRefusal>
     requires feasible { IsFeasiblePlan scheme.now flows }
     requires shown { PricesShow scheme.now prices flows }
-    requires log { LogFits log }
     ensures plan { Certifies result (unless_walk_overflows scheme.now (optimal_plan scheme.now flows prices log)) }
     ensures accepted { IfOk result (IsAccepted scheme.now) }
-    ensures fits { IfOk result (PlanFits scheme.now) }
+    ensures fits { LogFits log → IfOk result (PlanFits scheme.now) }
 {
     walk_accepts();
     walk_proves();
@@ -145,11 +144,10 @@ fn optimal(
 
 // The plan of prices that certify that there is none.
 fn infeasible(alloc: Global, scheme: &Scheme, prices: Fracs, log: Log) -> Result<Plan, TextRefusal>
-    requires forbidden { PricesForbid scheme.now prices }
-    requires log { LogFits log }
+    requires { PricesForbid scheme.now prices }
     ensures plan { Certifies result (unless_walk_overflows scheme.now (infeasible_plan scheme.now prices log)) }
     ensures accepted { IfOk result (IsAccepted scheme.now) }
-    ensures fits { IfOk result (PlanFits scheme.now) }
+    ensures fits { LogFits log → IfOk result (PlanFits scheme.now) }
 {
     walk_accepts();
     walk_proves();
@@ -168,6 +166,18 @@ fn infeasible(alloc: Global, scheme: &Scheme, prices: Fracs, log: Log) -> Result
     }
 }
 
+// An empty log, since the walk reads none.
+fn no_log(alloc: Global) -> Log
+    ensures { result ≡ record { turned = None; entries = [] } }
+{
+    Log {
+        turned: None,
+        entries: Entries {
+            items: Vec::new(alloc),
+        },
+    }
+}
+
 // The plan of flows along whose ray the cost falls without end.
 fn unbounded(
     alloc: Global,
@@ -176,14 +186,13 @@ fn unbounded(
     ray: Fracs,
     log: Log,
 ) -> Result<Plan, TextRefusal>
-    requires falls { FallsAlong scheme.now flows ray }
-    requires log { LogFits log }
+    requires { FallsAlong scheme.now flows ray }
     ensures plan { Certifies result (unless_walk_overflows scheme.now (unbounded_plan flows ray log)) }
     ensures accepted { IfOk result (IsAccepted scheme.now) }
-    ensures fits { IfOk result (PlanFits scheme.now) }
+    ensures fits { LogFits log → IfOk result (PlanFits scheme.now) }
 {
     walk_accepts();
-    let plan = Plan {
+    let mut plan = Plan {
         verdict: Verdict::Unbounded,
         amount: None,
         flows,
@@ -191,10 +200,13 @@ fn unbounded(
         ray,
         arc: None,
         overflow: None,
-        log,
+        log: no_log(alloc),
     };
     match check(alloc, scheme, &plan) {
-        Ok(_) => Ok(plan),
+        Ok(_) => {
+            plan.log = log;
+            Ok(plan)
+        }
         Err(refusal) => Err(told_of_walk(refusal)),
     }
 }
@@ -241,8 +253,8 @@ fn overflowed(alloc: Global, overflow: Overflow, log: Log) -> Plan
 /// It makes every sum that the checker makes on that plan: the amounts of the staged arcs in order, those of the flows and then those of the
 /// ray; and then the operations of the walk, in its order. [`TextRefusal::Past`] comes exactly where one of them overflows, and tells
 /// the first. So [`check`] accepts each optimal, infeasible or unbounded plan that comes out, unless memory ran out. No
-/// sum is made of a plan whose budget ended or in whose run an operation overflowed. It takes time and memory in
-/// proportion to the nodes, the arcs of the expanded network and the log.
+/// sum is made of a plan whose budget ended or in whose run an operation overflowed. Where the budget was at most a million pivots, the plan
+/// fits the scheme, its log too. It takes time and memory in proportion to the nodes, the arcs of the expanded network and the log.
 pub fn certify(
     alloc: Global,
     scheme: &Scheme,
@@ -253,7 +265,7 @@ pub fn certify(
     requires ended { HasEnded scheme.now outcome.now }
     ensures plan { Certifies result (certificate scheme.now outcome.now) }
     ensures accepted { IfOk result (IsAccepted scheme.now) }
-    ensures fits { IfOk result (PlanFits scheme.now) }
+    ensures fits { HasEndedWithin 1000000 scheme.now outcome.now → IfOk result (PlanFits scheme.now) }
 {
     ended_outcomes();
     match outcome {

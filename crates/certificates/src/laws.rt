@@ -7,7 +7,7 @@ ghost use Rattle.np_model.specs.declared.scheme.Scheme.{Scheme};
 ghost use Rattle.np_model.specs.Scheme.Fits.{PlanFits};
 ghost use Rattle.np_records.specs.Records.{records_of};
 ghost use Rattle.np_records.specs.Texts.{records_text};
-ghost use Rattle.certificates.specs.Certificates.{OptimalShows, InfeasibleForbids, UnboundedFalls, EndedPartsFit};
+ghost use Rattle.certificates.specs.Certificates.{OptimalShows, InfeasibleForbids, UnboundedFalls, EndedPartsFit, EndedLogFits};
 ghost use Rattle.certificates.specs.Claims.{outline_of};
 ghost use Rattle.certificates.specs.Grammar.{IsPlanOf, plan_fault};
 ghost use Rattle.certificates.specs.Reading.{StandsForAPlan, IsReadAs};
@@ -19,12 +19,14 @@ use period_expand::laws::expansions;
 
 /// An outcome that a run over the expanded network of a scheme has ended in shows its verdict of the scheme itself: the amounts that optimal
 /// flows are gathered to are a feasible plan, as the potentials show; potentials of an infeasible network certify that the scheme
-/// has no plan; and gathered flows and ray that every cost has a cheaper one. Its parts fit a plan.
+/// has no plan; and gathered flows and ray that every cost has a cheaper one. Its parts fit a plan, and where the budget is at most a million
+/// pivots its log does.
 pub fn ended_outcomes()
     ensures optimal { OptimalShows }
     ensures infeasible { InfeasibleForbids }
     ensures unbounded { UnboundedFalls }
     ensures parts { EndedPartsFit }
+    ensures log { EndedLogFits }
 {
     outcomes();
     parts();

@@ -34,7 +34,7 @@ use Rattle.net_csv.specs.declared.refused.Refused.{Refused}
 use Rattle.net_csv.specs.declared.refused.Refused.TheVariants as refused
 use Rattle.net_csv.specs.declared.refused.Tail.TheVariants as tail
 use Rattle.np_records.specs.Records.{records_of}
-use Rattle.certificates.specs.Certificates.{EndedPartsFit, optimal_plan, unbounded_plan, budget_plan, overflow_plan, total_overflow, with_amounts, unless_overflow, certificate, Certifies, IsAccepted, IsAcceptedAs}
+use Rattle.certificates.specs.Certificates.{EndedLogFits, optimal_plan, unbounded_plan, budget_plan, overflow_plan, total_overflow, with_amounts, unless_overflow, certificate, Certifies, IsAccepted, IsAcceptedAs}
 use Rattle.certificates.specs.declared.certifying.TextRefusal.{TextRefusal}
 use Rattle.certificates.specs.declared.certifying.TextRefusal.TheVariants as text_refusal
 use Rattle.netplan_top.specs.declared.words.Job.{Job}
@@ -154,7 +154,7 @@ past_of scheme (outcome.Overflow own log) overflow e = absurd (cc e)
 pub past_told : (meant : Result Plan Overflow) (why : TextRefusal) (overflow : Overflow) → why ≡ text_refusal.Past overflow → Certifies (Err why) meant → meant ≡ Err overflow
 past_told meant why overflow e h = subst (λ (w : TextRefusal). Certifies (Err w) meant) e h
 
-pub overflow_fits : EndedPartsFit → (scheme : Scheme) (job : Job) (o : Outcome) (overflow : Overflow) → job.budget ≤ 1000000 → IsEnded (net_of scheme) job.budget o → certificate scheme o ≡ Err overflow
+pub overflow_fits : EndedLogFits → (scheme : Scheme) (job : Job) (o : Outcome) (overflow : Overflow) → job.budget ≤ 1000000 → IsEnded (net_of scheme) job.budget o → certificate scheme o ≡ Err overflow
     → PlanFits scheme (overflow_plan overflow (log_of o))
 overflow_fits law scheme job o overflow few ended e =
     let sums = past_of scheme o overflow e in
@@ -165,7 +165,7 @@ overflow_fits law scheme job o overflow few ended e =
       flows = λ t. absurd (cc t);
       prices = λ t. absurd (cc t);
       ray = λ t. absurd (cc t);
-      log = (law scheme o (job.budget, few, ended)).1;
+      log = law scheme o (job.budget, few, ended);
     }
 
 pub overflow_found : (scheme : Scheme) (job : Job) (o : Outcome) (overflow : Overflow) → IsEnded (net_of scheme) job.budget o → certificate scheme o ≡ Err overflow

@@ -137,30 +137,31 @@ module _ (net : Network) (is_net : IsNet net.supply net.arcs) where
   attempt_place full pieces a o l (attempt.of_move d entry t followed (inr h)) =
       two_rows o A3 A7 (Arc a) (potential_row _ _ _ h.1.gives.0 _ o.row o.past h.1.gives.2) (h.1.place ∙ ap Arc followed.enters) (short a l) (short a l)
 
-  overflow_fits : (budget : ℕ) (o : Overflow) (log : Log) → budget ≤ 1000000 → EndsOverflow net budget o log → PlaceFits o.row o.place × LogFits log
-  overflow_fits budget o log small (at_start h) = (
+  overflow_fits : (budget : ℕ) (o : Overflow) (log : Log) → EndsOverflow net budget o log → PlaceFits o.row o.place × (budget ≤ 1000000 → LogFits log)
+  overflow_fits budget o log (at_start h) = (
     place_is o A1 (Node h.node) h.row h.place (let l = h.is_node in omega (arith, l, is_net.few_nodes)),
-    fits_text log (subst (λ es. length es ≤ 1000000) (sym h.no_entries) (omega arith)) (subst (λ t. IfSome t IsShortNumber) (sym h.not_turned) (record {}))
+    λ small. fits_text log (subst (λ es. length es ≤ 1000000) (sym h.no_entries) (omega arith)) (subst (λ t. IfSome t IsShortNumber) (sym h.not_turned) (record {}))
         (λ entry i. absurd (let none : IsIn entry [] = subst (IsIn entry) h.no_entries i in none)),
   )
-  overflow_fits budget o log small (at_price h) = (price_place (stage_net net log) (values_of h.last).potential h.arc o h.is_open.0.0 h.past, run_fits budget log h.last small h.has_run)
-  overflow_fits budget o log small (at_attempts h) = (attempt_place _ h.past.pieces h.arc o h.may_enter.is_open.0 h.past.first, run_fits budget log h.last small h.has_run)
-  overflow_fits budget o log small (at_turn h) =
-      let few : length log.entries ≤ 1000000 = omega (arith, h.few) in (
-        two_rows o A3 A7 Turn (potential_row _ _ _ h.gives.0 _ o.row o.past h.gives.2) h.place (record {}) (record {}),
+  overflow_fits budget o log (at_price h) = (price_place (stage_net net log) (values_of h.last).potential h.arc o h.is_open.0.0 h.past, λ small. run_fits budget log h.last small h.has_run)
+  overflow_fits budget o log (at_attempts h) = (attempt_place _ h.past.pieces h.arc o h.may_enter.is_open.0 h.past.first, λ small. run_fits budget log h.last small h.has_run)
+  overflow_fits budget o log (at_turn h) = (
+    two_rows o A3 A7 Turn (potential_row _ _ _ h.gives.0 _ o.row o.past h.gives.2) h.place (record {}) (record {}),
+    λ small.
+        let few : length log.entries ≤ 1000000 = omega (arith, h.few, small) in
         fits_text log few (subst (λ t. IfSome t IsShortNumber) (sym h.turned) (omega (arith, few))) (led One (start_state net) log.entries h.last h.leads),
-      )
+  )
 
 pub ended_fits : OptimalCertifies → InfeasibleCertifies → UnboundedCertifies → EndedFits
-ended_fits optimal infeasible unbounded net budget (outcome.Optimal flows p log) is_net supplies small h =
+ended_fits optimal infeasible unbounded net budget (outcome.Optimal flows p log) is_net supplies h =
     let r = optimal net budget flows p log is_net.sound supplies h in
-    ((r.0.one_each, r.1.one_each), run_fits net is_net budget log h.last small h.has_run)
-ended_fits optimal infeasible unbounded net budget (outcome.Infeasible p log) is_net supplies small h =
+    ((r.0.one_each, r.1.one_each), λ small. run_fits net is_net budget log h.last small h.has_run)
+ended_fits optimal infeasible unbounded net budget (outcome.Infeasible p log) is_net supplies h =
     let r = infeasible net budget p log is_net.sound supplies h in
-    (r.0.one_each, run_fits net is_net budget log h.last small h.has_run)
-ended_fits optimal infeasible unbounded net budget (outcome.Unbounded flows ray log) is_net supplies small h =
+    (r.0.one_each, λ small. run_fits net is_net budget log h.last small h.has_run)
+ended_fits optimal infeasible unbounded net budget (outcome.Unbounded flows ray log) is_net supplies h =
     let r = unbounded net budget flows ray log is_net.sound supplies h in
-    ((r.feasible.one_each, r.one_each), run_fits net is_net budget log h.last small h.has_run)
-ended_fits optimal infeasible unbounded net budget (outcome.Budget arc log) is_net supplies small h =
-    (short net is_net arc h.may_enter.is_open.0, run_fits net is_net budget log h.last small h.has_run)
-ended_fits optimal infeasible unbounded net budget (outcome.Overflow o log) is_net supplies small h = overflow_fits net is_net budget o log small h
+    ((r.feasible.one_each, r.one_each), λ small. run_fits net is_net budget log h.last small h.has_run)
+ended_fits optimal infeasible unbounded net budget (outcome.Budget arc log) is_net supplies h =
+    (short net is_net arc h.may_enter.is_open.0, λ small. run_fits net is_net budget log h.last small h.has_run)
+ended_fits optimal infeasible unbounded net budget (outcome.Overflow o log) is_net supplies h = overflow_fits net is_net budget o log h

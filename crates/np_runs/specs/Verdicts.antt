@@ -100,10 +100,10 @@ PartsFit net (outcome.Unbounded flows ray log) = (length flows ≡ length net.ar
 PartsFit net (outcome.Budget arc log) = IsShortNumber arc
 PartsFit net (outcome.Overflow overflow log) = PlaceFits overflow.row overflow.place
 
--- so it is of a run that has ended, in a network that is not too large and with no larger budget than a million pivots; and its log fits a text
+-- so it is of a run that has ended, in a network that is not too large; and where its budget is at most a million pivots, its log fits a text
 abbrev pub EndedFits : Type 0
-EndedFits = (net : Network) (budget : ℕ) (x : Outcome) → IsNet net.supply net.arcs → SuppliesFit net → budget ≤ 1000000 → IsEnded net budget x
-    → PartsFit net x × LogFits (log_of x)
+EndedFits = (net : Network) (budget : ℕ) (x : Outcome) → IsNet net.supply net.arcs → SuppliesFit net → IsEnded net budget x
+    → PartsFit net x × (budget ≤ 1000000 → LogFits (log_of x))
 
 -- ---- an example
 

@@ -95,8 +95,8 @@ pub fn verdicts()
     pivots();
 }
 
-/// The lists of an outcome have one entry for each arc or node; its numbers and those of its log have at most nine digits; and an overflow is told
-/// at a place that its row can have.
+/// The lists of an outcome have one entry for each arc or node; its numbers have at most nine digits, and where the budget is at most a million
+/// pivots those of its log too; and an overflow is told at a place that its row can have.
 pub fn parts()
     ensures { EndedFits }
 {

@@ -32,7 +32,6 @@ ends_at_once law scheme prices entries alone prices_are none =
     law (whole (negsuc 4)) 0 (whole_fits (negsuc 4) (omega arith)) lacks
     in (
       0,
-      omega arith,
       subst (λ (net : Network). IsEnded net 0 (outcome.Infeasible prices (record { turned = None; entries = entries }))) (sym alone)
           (subst (λ (es : List Entry). IsEnded (node_alone (whole (negsuc 4))) 0 (outcome.Infeasible prices (record { turned = None; entries = es }))) (sym none)
           (subst (λ (p : List Ratio). IsEnded (node_alone (whole (negsuc 4))) 0 (outcome.Infeasible p (record { turned = None; entries = [] })))

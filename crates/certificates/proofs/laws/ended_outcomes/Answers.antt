@@ -1,4 +1,4 @@
-use Rattle.certificates.proofs.Outcomes.{optimal_shows, infeasible_forbids, unbounded_falls, parts_fit}
+use Rattle.certificates.proofs.Outcomes.{optimal_shows, infeasible_forbids, unbounded_falls, parts_fit, log_fits}
 use Rattle.certificates.proofs.laws.ended_outcomes.Goals as goal
 
 pub returns-clause-optimal : goal.returns-clause-optimal
@@ -12,3 +12,6 @@ returns-clause-unbounded c = unbounded_falls c.schemes.ensures.net c.expansions.
 
 pub returns-clause-parts : goal.returns-clause-parts
 returns-clause-parts c = parts_fit c.schemes.ensures.net c.expansions.ensures c.parts.ensures
+
+pub returns-clause-log : goal.returns-clause-log
+returns-clause-log c = log_fits c.schemes.ensures.net c.expansions.ensures c.parts.ensures
