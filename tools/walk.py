@@ -4,6 +4,7 @@ first operation whose result does not fit 128 bits.
 It is written from docs/FORMATS.md, "The walk", and not proved.
 """
 from fractions import Fraction
+from functools import cached_property
 
 from plans import fits
 from texts import NEEDED, lesser
@@ -13,19 +14,18 @@ OPERATIONS = {"plus": lambda x, y: x + y, "minus": lambda x, y: x - y, "times": 
 
 
 class Walk:
-    """`line` is what the walk comes to where any number fits, `sides` what is compared where it fails, and `past` the first operation that does
-    not fit 128 bits, with its clause; it may lie behind the clause that fails."""
+    """`line` is what the walk comes to where any number fits. Behind it `sides` has what is compared where it fails, and `past` the first
+    operation that does not fit 128 bits, by its row."""
 
     def __init__(self, network, plan):
         self.network, self.plan, self.staged = network, plan, network.staged()
-        self.past, self.sides, self.clause = None, {}, None
+        self.past, self.sides = None, {}
         self.touching = {place: [] for place in network.supply}
         for t, flow in self.staged:
             if flow.tail is not None:
                 self.touching[t, flow.tail].append((t, flow, True))
             if flow.head is not None:
                 self.touching[t + 1 if flow.kind == "hold" else t, flow.head].append((t, flow, False))
-        self.line = self.walked()
 
     def operation(self, row, word, left, right):
         value = OPERATIONS[word](left, right)
@@ -159,7 +159,8 @@ class Walk:
             "unbounded": feasible + [self.ray(), self.balance("ray", "ray-balance", "C6", dict.fromkeys(supply, ZERO)), self.ray_cost()],
         }.get(self.plan.verdict, [iter([["uncertified"]])])
 
-    def walked(self):
+    @cached_property
+    def line(self):
         for clause in self.clauses():
             for rejected in clause:
                 return ["rejected"] + rejected
@@ -169,7 +170,8 @@ class Walk:
 
     def answer(self):
         """The line that the program prints."""
-        return ["past"] + self.past if self.past else self.line
+        line = self.line
+        return ["past"] + self.past if self.past else line
 
 
 def slope_at(flow, amount, side):
