@@ -112,6 +112,20 @@ class Draw(random.Random):
                     record[place] = "-" * record[place].startswith("-") + self.wide(is_amount)
         return records
 
+    def steep(self):
+        """The records of a network of one period whose gains and costs have many digits, with cycles: potentials and directions grow long."""
+        nodes = [f"n{k}" for k in range(self.choice([2, 2, 3, 4]))]
+        gains = ["1", "2", "1/2"] + [f"{sign}1{'0' * zeros}" for sign in ("", "1/") for zeros in (9, 13, 17)] + ["1/999999999999999999", "999999999999999998"]
+        cost = lambda: self.choice(["0", "0", "1", "-1", "1/999999999999999997", "-1/1000000000000000000", "-999999999999999999"])
+        records = [["netplan", "1"], ["periods", "1"]] + [["node", n] for n in nodes]
+        records += [["supply", n, "1", self.choice(["1", "-1", "1/999999999999999998", "-1/3"])] for n in nodes if self.often(0.4)]
+        for k in range(self.randint(2, 5)):
+            ends = self.sample(nodes, 2) + [self.choice(gains)] if self.often(0.75) else [self.choice(nodes)]
+            kind = "arc" if len(ends) == 3 else self.choice(["drain", "feed"])
+            upper = self.choice(["inf", "inf", "1", "1/999999999999999997"])
+            records.append([kind, f"f{k}", *ends, "0", upper, cost()])
+        return records + [["end"]]
+
     def damaged(self, records):
         """A record or a field dropped, doubled or replaced, the last by one of the text or by one that is rarely right."""
         records = [list(r) for r in records]
