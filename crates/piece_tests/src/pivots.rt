@@ -23,7 +23,7 @@ use np_model::{
     Direction, Ends, Entry, Fracs, FullNet, Hands, Mark, Net, NetArc, NetArcs, Overflow, Phase,
     Piece, Pivoter, Place, Prepared, Row, Upper,
 };
-use pivot_step::{Change, TreePivoter, apply, prepare};
+use pivot_step::{Change, TreePivoter, apply, flow_at, prepare};
 use quasi_tree::Quasi;
 use quasi_tree::laws::starts;
 use std::alloc::Global;
@@ -70,6 +70,21 @@ fn narrow_drain() -> NetArc
         ends: Ends::Drain(0),
         lower: Frac::whole(0),
         upper: Upper::Finite(Frac::whole(3)),
+        cost: Frac::whole(0),
+    }
+}
+
+// A drain of A between these bounds, or without an upper one where that is below the lower one.
+fn drain_between(lower: Frac, upper: Frac) -> NetArc
+    ensures { IsSoundArc 2 result }
+{
+    if upper.is_below(lower) {
+        return arc(Ends::Drain(0), 0);
+    }
+    NetArc {
+        ends: Ends::Drain(0),
+        lower,
+        upper: Upper::Finite(upper),
         cost: Frac::whole(0),
     }
 }
@@ -438,27 +453,24 @@ fn parted(
     }
 }
 
-// The pieces of the start after a pivot of the second one by itself.
-fn second_moved(alloc: Global, begun: Start, expected: Entry) -> Result<Start, Fail>
-    requires { AreSound (phase_net StageOne begun.full) (begun.first.lists ∷ begun.second.lists ∷ []) }
-    ensures { IfOk result (λ made. AreSound (phase_net StageOne made.full) (made.second.lists ∷ made.first.lists ∷ [])) }
+// The piece after a pivot of it by this entry, beside another piece.
+fn kept_beside(
+    alloc: Global,
+    full: &FullNet,
+    beside: &Quasi,
+    piece: &Quasi,
+    expected: Entry,
+) -> Result<Quasi, Fail>
+    requires { AreSound (phase_net StageOne full.now) (beside.now.lists ∷ piece.now.lists ∷ []) }
+    ensures { IfOk result (λ after. AreSound (phase_net StageOne full.now) (after.lists ∷ beside.now.lists ∷ [])) }
 {
-    let Start {
-        full,
-        first,
-        second,
-    } = begun;
-    match alone(alloc, &full, Phase::One, &second, expected.enter) {
+    match alone(alloc, full, Phase::One, piece, expected.enter) {
         Prepared::Ready { entry, change } => {
             if entry != expected {
                 return Err(Fail::from("another entry"));
             }
             match apply(change) {
-                Hands::One(second) => Ok(Start {
-                    full,
-                    first,
-                    second,
-                }),
+                Hands::One(after) => Ok(after),
                 Hands::Two(_, _) => Err(Fail::from("two pieces")),
             }
         }
@@ -480,16 +492,41 @@ fn three_drains(alloc: Global) -> Result<Start, Memory>
     started(alloc, &net)
 }
 
-// The piece of both nodes in stage two, after pivots by the drain of B and by the link.
-fn drained_at_b(alloc: Global) -> Result<AtStart, Fail>
-    ensures { IfOk result (λ made. AreSound (phase_net StageTwo made.full) (made.piece.lists ∷ [])) }
+// The piece of B after a pivot by its drain, and that of A.
+fn drained_b(alloc: Global) -> Result<Start, Fail>
+    ensures { IfOk result (λ made. AreSound (phase_net StageOne made.full) (made.second.lists ∷ made.first.lists ∷ [])) }
 {
     let Start {
         full,
         first,
         second,
-    } = second_moved(alloc, three_drains(alloc)?, entry(1, 5))?;
+    } = three_drains(alloc)?;
+    let second = kept_beside(alloc, &full, &first, &second, entry(1, 5))?;
+    Ok(Start {
+        full,
+        first,
+        second,
+    })
+}
+
+// The piece of both nodes after a pivot by the link.
+fn linked_to_b(alloc: Global) -> Result<AtStart, Fail>
+    ensures { IfOk result (λ made. AreSound (phase_net StageOne made.full) (made.piece.lists ∷ [])) }
+{
+    let Start {
+        full,
+        first,
+        second,
+    } = drained_b(alloc)?;
     let piece = joined(alloc, &full, &second, &first, entry(0, 4))?;
+    Ok(AtStart { full, piece })
+}
+
+// That piece in stage two.
+fn drained_at_b(alloc: Global) -> Result<AtStart, Fail>
+    ensures { IfOk result (λ made. AreSound (phase_net StageTwo made.full) (made.piece.lists ∷ [])) }
+{
+    let AtStart { full, piece } = linked_to_b(alloc)?;
     let piece = turned(alloc, &full, piece)?;
     Ok(AtStart { full, piece })
 }
@@ -604,18 +641,53 @@ fn prepared_link(alloc: Global, gain: Frac) -> Result<Prepared<Change>, Memory> 
 // The price of the link is 0 - (-1) + gain * 1, which is 2^127 here.
 #[test]
 fn past(rt: HostRuntime) -> Result<(), Fail> {
-    let one = Frac::whole(1);
-    let greatest = Frac::new(i128::MAX, 1).unwrap_or(one);
     let overflow = Overflow {
         row: Row::A2,
         place: Place::Arc(0),
         past: Past {
             op: Op::Plus,
-            left: one,
-            right: greatest,
+            left: Frac::whole(1),
+            right: greatest(),
         },
     };
-    let found = prepared_link(rt.alloc(), greatest)?;
+    let found = prepared_link(rt.alloc(), greatest())?;
+    assert!(rt; is_past(&found, overflow));
+    Ok(())
+}
+
+// A brings 5, and a drain there takes from -1 up to as much as a fraction can be (arc 0).
+fn wide_drain(alloc: Global) -> Result<AtStart, Memory>
+    ensures { IfOk result (λ made. AreSound (phase_net StageOne made.full) (made.piece.lists ∷ [])) }
+{
+    let drain = drain_between(Frac::whole(-1), greatest());
+    let net = network(alloc, &[Frac::whole(5), Frac::whole(0)], &[drain])?;
+    Ok(first_alone(started(alloc, &net)?))
+}
+
+fn greatest() -> Frac {
+    Frac::new(i128::MAX, 1).unwrap_or(Frac::whole(1))
+}
+
+// What comes of that drain.
+fn prepared_drain(alloc: Global) -> Result<Prepared<Change>, Memory> {
+    let made = wide_drain(alloc)?;
+    Ok(alone(alloc, &made.full, Phase::One, &made.piece, 0))
+}
+
+// The drain is at -1, and the artificial one (arc 1) takes 6 at the potential 1. At the price 0 - 1 the drain enters upwards: it can go up to its
+// upper bound, which is 2^127 - 1 less -1 away.
+#[test]
+fn past_the_greatest_step(rt: HostRuntime) -> Result<(), Fail> {
+    let overflow = Overflow {
+        row: Row::A5,
+        place: Place::Arc(0),
+        past: Past {
+            op: Op::Minus,
+            left: greatest(),
+            right: Frac::whole(-1),
+        },
+    };
+    let found = prepared_drain(rt.alloc())?;
     assert!(rt; is_past(&found, overflow));
     Ok(())
 }
@@ -630,22 +702,49 @@ fn drain_of_three(alloc: Global) -> Result<AtStart, Memory>
     Ok(first_alone(started(alloc, &net)?))
 }
 
+// The flows of that drain at its bounds, and where it is basic.
+fn flows_of_drain(alloc: Global) -> Result<[Frac; 3], Memory> {
+    let made = drain_of_three(alloc)?;
+    if !is_arc(&made.full, 0) {
+        return Err(Memory);
+    }
+    Ok([
+        flow_at(&made.full, Phase::One, 0, Mark::Lower),
+        flow_at(&made.full, Phase::One, 0, Mark::Upper),
+        flow_at(&made.full, Phase::One, 0, Mark::Basic),
+    ])
+}
+
+#[test]
+fn flows_at_bounds(rt: HostRuntime) -> Result<(), Fail> {
+    let flows = flows_of_drain(rt.alloc())?;
+    let expected = [Frac::whole(0), Frac::whole(3), Frac::whole(0)];
+    assert!(rt; flows.as_slice() == expected.as_slice());
+    Ok(())
+}
+
 // The entry of that drain by the pivoter, and the piece after it.
-fn flipped(alloc: Global) -> Result<(Entry, Quasi), Fail> {
-    let AtStart { full, piece } = drain_of_three(alloc)?;
+fn flip_of(alloc: Global, full: &FullNet, piece: Quasi) -> Result<(Entry, Quasi), Fail>
+    requires { AreSound (phase_net StageOne full.now) (piece.lists ∷ []) }
+{
     let mut piece = piece;
-    if !holds(&full, &piece, 0) {
+    if !holds(full, &piece, 0) {
         return Err(Fail::from("another start"));
     }
-    match TreePivoter.prepare(alloc, &full, Phase::One, &mut piece, None, 0) {
+    match TreePivoter.prepare(alloc, full, Phase::One, &mut piece, None, 0) {
         Prepared::Ready { entry, change } => {
-            match TreePivoter.apply(&full, Phase::One, change, piece, None) {
+            match TreePivoter.apply(full, Phase::One, change, piece, None) {
                 Hands::One(after) => Ok((entry, after)),
                 Hands::Two(_, _) => Err(Fail::from("two pieces")),
             }
         }
         _ => Err(Fail::from("no pivot")),
     }
+}
+
+fn flipped(alloc: Global) -> Result<(Entry, Quasi), Fail> {
+    let AtStart { full, piece } = drain_of_three(alloc)?;
+    flip_of(alloc, &full, piece)
 }
 
 // Of the supply 5 of A its artificial drain (arc 1) takes all, at the potential 1. Another drain (arc 0) at the price 0 - 1 takes 3, which is

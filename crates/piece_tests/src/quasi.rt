@@ -189,6 +189,23 @@ fn changes(rt: HostRuntime) -> Result<(), Fail> {
     Ok(())
 }
 
+// The lists with other potentials.
+fn repriced(alloc: Global) -> Result<Lists, Memory> {
+    let mut piece = round(alloc)?;
+    piece.set_potentials(&[Frac::whole(2), Frac::whole(-1)]);
+    Ok(piece.take_apart())
+}
+
+#[test]
+fn potentials_of_all(rt: HostRuntime) -> Result<(), Fail> {
+    let lists = repriced(rt.alloc())?;
+    let nodes = [node(0, 2), node(1, -1)];
+    let basics = [basic(1, gaining(1), 7), basic(4, gaining(2), 9)];
+    let marks = [(2, Mark::Lower), (3, Mark::Upper)];
+    assert!(rt; are_lists(&lists, &nodes, &basics, &marks));
+    Ok(())
+}
+
 // Whether there is room for so many nodes, as many basic arcs, and so many marks.
 fn has_room(lists: &Lists, nodes: usize, marks: usize) -> bool {
     lists.nodes.items.capacity() >= nodes

@@ -228,6 +228,11 @@ fn one_pivot(rt: HostRuntime) -> Result<(), Fail> {
     Ok(())
 }
 
+// The shares of a pass, the pieces that it has in hand, and its spare.
+fn counts(pass: &Pass<Alone>) -> [u32; 3] {
+    [pass.shares(), pass.hands(), pass.spare()]
+}
+
 // Two passes of a table of two pieces: what one has in hand the other finds taken.
 #[test]
 fn two_passes(rt: HostRuntime) -> Result<(), Fail> {
@@ -236,33 +241,35 @@ fn two_passes(rt: HostRuntime) -> Result<(), Fail> {
     let Ok((table, mut one)) = TreeTable::set_up(rt.alloc(), &full, Phase::One, pieces, 3) else {
         panic!(rt; "no memory")
     };
-    assert!(rt; one.shares() == 64 && one.hands() == 0 && one.spare() == 3);
+    let begun = counts(&one);
     let Ok(mut other) = table.fork(rt.alloc(), &mut one, 2) else {
         panic!(rt; "no memory")
     };
-    assert!(rt; one.shares() == 32 && other.shares() == 32 && other.spare() == 2);
+    let (left, forked) = (counts(&one), counts(&other));
     let Taken::Piece(piece) = table.take(&mut one, 1) else {
         panic!(rt; "busy")
     };
-    assert!(rt; piece.node == 1 && one.hands() == 1);
+    let taken = [piece.node, one.hands()];
     let Taken::Busy { word } = table.take(&mut other, 1) else {
         panic!(rt; "taken twice")
     };
-    assert!(rt; word == 1 && other.hands() == 0);
-    let TakenTwo::Busy { slot, word } = table.take_two(&mut other, 0, 1) else {
+    let TakenTwo::Busy { slot, word: again } = table.take_two(&mut other, 0, 1) else {
         panic!(rt; "taken twice")
     };
-    assert!(rt; slot == 1 && word == 1 && other.hands() == 0);
+    let missed = other.hands();
     table.put_back(&mut one, Hands::One(piece));
-    assert!(rt; one.hands() == 0);
+    let put_back = one.hands();
     let TakenTwo::Both(first, second) = table.take_two(&mut other, 0, 1) else {
         panic!(rt; "busy")
     };
-    assert!(rt; first.node == 0 && second.node == 1 && other.hands() == 2);
+    let both = [first.node, second.node, other.hands()];
     table.put_back(&mut other, Hands::Two(first, second));
     table.fold(&mut one, other);
-    assert!(rt; one.shares() == 64 && one.hands() == 0 && one.spare() == 3);
+    let folded = counts(&one);
     let closed = table.close(one);
+    assert!(rt; begun == [64, 0, 3] && left == [32, 0, 3] && forked == [32, 0, 2]);
+    assert!(rt; taken == [1, 1] && word == 1 && slot == 1 && again == 1);
+    assert!(rt; missed == 0 && put_back == 0 && both == [0, 1, 2] && folded == [64, 0, 3]);
     assert!(rt; closed.pieces.len() == 2 && closed.entries.items.len() == 0);
     assert!(rt; closed.pieces[0].node == 0 && closed.pieces[1].node == 1);
     Ok(())
