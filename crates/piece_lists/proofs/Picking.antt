@@ -13,7 +13,7 @@ at_end [] n rest = (omega arith, refl)
 at_end (m ∷ ns) n rest = let r = at_end ns n rest in (omega (arith, r.0), r.1)
 
 module _ {T : Type 0} (key : T → ℕ) (xs like : List T) where
-  -- so many entries are gone over, and these are picked: of the numbers that are left each is still to come
+  -- so many entries are gone over, and these are picked: each of the numbers that are left stands further on
   pub record Picked (i : ℕ) (out : List T) : Type 0 where
     pub later : List ℕ
     pub split : map key like ≡ map key out ++ later
