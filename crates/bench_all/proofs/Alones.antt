@@ -1,13 +1,9 @@
 -- Nodes alone have each its slot, and no node is in two of them.
-use Rattle.std.proofs.Common.{◌≡◌, ◌≤◌, ℕ, ◌+◌, zero, suc, List, [], ◌∷◌, ◌++◌, map, ⊎_elim, subst, sym, ap, ◌∙◌, refl, arith}
-use Rattle.std.specs.List.{range_with_len}
-use Rattle.std.proofs.lemmas.List.FromFn.{map-range_with_len_more, length-map-range_with_len, get_or-map-range_with_len}
+use Rattle.std.proofs.Common.{◌≡◌, ◌≤◌, ℕ, ◌+◌, zero, suc, ⊎_elim, subst, sym, arith}
 use Rattle.gain_graphs.specs.Arcs.{IsIn}
-use Rattle.np_model.specs.declared.arc.Ends.TheVariants.{Drain}
-use Rattle.np_model.specs.Basis.Artificial.{AreArtificial}
 use Rattle.np_model.specs.Basis.Pieces.{nodes_of, AreApart}
 use Rattle.tree_table.specs.Slots.{HasSlot, HaveSlots}
-use Rattle.bench_all.specs.Visits.{alone, alones, drains}
+use Rattle.bench_all.specs.Visits.{alone, alones}
 
 pub have_slots : (first n total : ℕ) → first + n ≤ total → HaveSlots total (alones first n)
 have_slots first zero total fit piece is_in = absurd is_in

@@ -1,5 +1,5 @@
 -- Nodes that supply nothing are as many as their numbers, and their drains are artificial arcs.
-use Rattle.std.proofs.Common.{◌≡◌, ℕ, refl, length}
+use Rattle.std.proofs.Common.{◌≡◌, ℕ, refl, length, arith}
 use Rattle.std.proofs.lemmas.List.FromFn.{length-map-range_with_len, get_or-map-range_with_len}
 use Rattle.np_frac.specs.Ratio.{zero_ratio}
 use Rattle.np_model.specs.declared.arc.Ends.TheVariants.{Drain}
